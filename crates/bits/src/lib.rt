@@ -1,0 +1,170 @@
+// Byte strings as vectors of bits, and the reset timers behind them: every loop that partial networking needs, over
+// any length.
+//
+// Promises: each function is an equation with a definition of specs/, for every length. Leaves to others: what a
+// bit stands for (`pdu`), and when a timer is loaded or counted (`channel`).
+ghost use mathlib.Core.Path.{_≡_};
+ghost use mathlib.Core.Bool.{_&&_};
+ghost use Prim.Native.Nat.{_-_, _*_, _^_, _≤_, _<_};
+ghost use lib.Count.{trailingZeros};
+ghost use lib.ListN.{length, getD, take};
+ghost use Rattle.bits.specs.Bits.{bitOf, bitAt, someMasked, countOnes, lowestIn};
+ghost use Rattle.bits.specs.Timers.{countedDown, loadedWhere, allWithin, vectorsDiffer};
+
+// ---- bits of bytes
+
+// Bit k of a byte; a byte has no bit 8 or above.
+pub fn bit_of(b: u8, k: u8) -> bool
+    ensures { λ r. ⌜ r ≡ bitOf b k ⌝ }
+{
+    if k < 8 { (b >> k) % 2 == 1 } else { false }
+}
+
+// Bit k of a byte string, 0 past its end.
+pub fn bit_at(bytes: &[u8], k: usize) -> bool
+    ensures { λ r. ⌜ r ≡ bitAt (now (bytes .entry)) k ⌝ }
+{
+    let j = k / 8;
+    if j < bytes.len() {
+        return bit_of(bytes[j], (k % 8) as u8);
+    }
+    false
+}
+
+// Byte k of a byte string, 0 past its end.
+pub fn byte_at(bytes: &[u8], k: usize) -> u8
+    ensures { λ r. ⌜ r ≡ getD (now (bytes .entry)) k 0 ⌝ }
+{
+    if k < bytes.len() { bytes[k] } else { 0 }
+}
+
+// Is some byte AND its mask byte not 0? A mask that is shorter reads 0 past its end.
+pub fn some_masked(bytes: &[u8], mask: &[u8]) -> bool
+    ensures { λ r. ⌜ r ≡ someMasked (now (bytes .entry)) (now (mask .entry)) ⌝ }
+{
+    let mut found = false;
+    let mut i: usize = 0;
+    while i < bytes.len() {
+        found = choice::either(found, bytes[i] & byte_at(mask, i) != 0);
+        i = i + 1;
+    }
+    found
+}
+
+// How many bits are 1, summed over the bytes.
+pub fn count_ones(bytes: &[u8]) -> u32
+    requires { ⌜ length (now bytes) < 2 ^ 28 ⌝ }
+    ensures { λ r. ⌜ r ≡ countOnes (now (bytes .entry)) ⌝ }
+{
+    let mut n: u32 = 0;
+    let mut i: usize = 0;
+    while i < bytes.len() {
+        n = n + u8::count_ones(bytes[i]);
+        i = i + 1;
+    }
+    n
+}
+
+// The zeros below a byte's lowest 1: 8 where it has none.
+fn trailing_zeros(b: u8) -> usize
+    ensures { λ r. ⌜ r ≡ trailingZeros 8 b ⌝ }
+{
+    u8::trailing_zeros(b) as usize
+}
+
+// Where the lowest 1 of a byte string stands.
+pub enum Lowest {
+    At(usize),
+    Nowhere,
+}
+
+// The lowest bit that is 1: in the first byte that is not 0, above its trailing zeros.
+pub fn lowest_one(bytes: &[u8]) -> Lowest
+    requires { ⌜ length (now bytes) < 2 ^ 28 ⌝ }
+    ensures { λ r. ⌜ r ≡ lowestIn (now (bytes .entry)) ⌝ }
+{
+    let mut i: usize = 0;
+    while i < bytes.len() {
+        let b = bytes[i];
+        if b != 0 {
+            return Lowest::At(8 * i + trailing_zeros(b));
+        }
+        i = i + 1;
+    }
+    Lowest::Nowhere
+}
+
+// ---- reset timers
+
+// One down; a stopped timer stays 0.
+pub fn down(t: u16) -> u16
+    ensures { λ r. ⌜ r ≡ t - 1 ⌝ }
+{
+    if t == 0 {
+        return 0;
+    }
+    t - 1
+}
+
+// Every running timer one down. Answers whether the vector changed by it.
+pub fn count_down(timers: &mut [u16]) -> bool
+    ensures { λ r. ⌜ (now (timers .exit) ≡ countedDown (now (timers .entry))) × (r ≡ vectorsDiffer (now (timers .entry)) (countedDown (now (timers .entry)))) ⌝ }
+{
+    let mut fell = false;
+    let mut i: usize = 0;
+    while i < timers.len() {
+        let t = timers[i];
+        fell = choice::either(fell, t == 1);
+        timers[i] = down(t);
+        i = i + 1;
+    }
+    fell
+}
+
+// Each timer whose bit stands in the bytes and in the mask is loaded with `reset`.
+pub fn load_where(bytes: &[u8], mask: &[u8], reset: u16, timers: &mut [u16])
+    ensures { λ r. ⌜ now (timers .exit) ≡ loadedWhere (now (bytes .entry)) (now (mask .entry)) reset (now (timers .entry)) ⌝ }
+{
+    let mut i: usize = 0;
+    while i < timers.len() {
+        let marked = choice::both(bit_at(bytes, i), bit_at(mask, i));
+        timers[i] = choice::pick16(marked, reset, timers[i]);
+        i = i + 1;
+    }
+}
+
+// Is each timer of both tables at most `reset`, and 0 where its bit is not in the first `n` bytes of the mask?
+pub fn pair_within<'a>(mask: &'a [u8], n: usize, reset: u16, a: &'a [u16], b: &'a [u16]) -> bool
+    requires { ⌜ (length (now a) ≤ 8 * length (now mask)) × (length (now b) ≡ length (now a)) ⌝ }
+    ensures { λ r. ⌜ r ≡ allWithin (take n (now (mask .entry))) reset (now (a .entry)) && allWithin (take n (now (mask .entry))) reset (now (b .entry)) ⌝ }
+{
+    let mut ok = true;
+    let mut i: usize = 0;
+    while i < a.len() {
+        let marked = choice::both(i / 8 < n, bit_of(mask[i / 8], (i % 8) as u8));
+        let top = choice::pick16(marked, reset, 0);
+        ok = choice::both(ok, choice::both(a[i] <= top, b[i] <= top));
+        i = i + 1;
+    }
+    ok
+}
+
+// Timer k of a table, 0 past its end.
+pub fn timer_at(timers: &[u16], k: usize) -> u16
+    ensures { λ r. ⌜ r ≡ getD (now (timers .entry)) k 0 ⌝ }
+{
+    if k < timers.len() { timers[k] } else { 0 }
+}
+
+// Does some bit of the first table's vector differ from the second's? Past the second's end its bits are 0.
+pub fn vectors_differ(a: &[u16], b: &[u16]) -> bool
+    ensures { λ r. ⌜ r ≡ vectorsDiffer (now (a .entry)) (now (b .entry)) ⌝ }
+{
+    let mut found = false;
+    let mut i: usize = 0;
+    while i < a.len() {
+        found = choice::either(found, choice::unlike(a[i] == 0, timer_at(b, i) == 0));
+        i = i + 1;
+    }
+    found
+}

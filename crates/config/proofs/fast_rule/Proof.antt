@@ -1,0 +1,11 @@
+-- `config::fast_rule` meets its contract. Assumes nothing.
+use Rattle.config.specs.Rules.{rule4}
+use Rattle.config.proofs.fast_rule.Statement.{statement}
+use Rattle.config.proofs.fast_rule.Tie as tie
+
+returns : tie.Need-returns
+unfolding rule4
+returns c = rw (c .either .ensures, c .before .in-ticks .ensures)
+
+pub fast-rule-spec : {M : Type 1} → statement M
+fast-rule-spec = tie.close (tie.spec (λ c κs. tt) (λ c κs. tt) returns)

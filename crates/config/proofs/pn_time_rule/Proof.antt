@@ -1,0 +1,11 @@
+-- `config::pn_time_rule` meets its contract. Assumes nothing.
+use Rattle.config.specs.Rules.{pnTime}
+use Rattle.config.proofs.pn_time_rule.Statement.{statement}
+use Rattle.config.proofs.pn_time_rule.Tie as tie
+
+returns : tie.Need-returns
+unfolding pnTime
+returns c = rw (c .both .ensures, c .before .in-ticks3 .ensures, c .before .before .in-ticks2 .ensures, c .before .before .before .in-ticks .ensures)
+
+pub pn-time-rule-spec : {M : Type 1} → statement M
+pn-time-rule-spec = tie.close (tie.spec (λ c κs. tt) (λ c κs. tt) (λ c κs. tt) (λ c κs. tt) returns)

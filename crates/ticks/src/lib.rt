@@ -1,0 +1,39 @@
+// Milliseconds to ticks of the main function, rounded up.
+//
+// Promises: the number of ticks for every period and time within their bounds, else which configuration rule
+// refuses the pair. Leaves to others: which time belongs to which parameter (`config`).
+ghost use mathlib.Core.Path.{_≡_};
+ghost use Rattle.ticks.specs.Ticks.{conversionOf};
+
+// The period of the main function, in milliseconds: smallest and largest.
+pub const PERIOD_LEAST: u64 = 1;
+
+pub const PERIOD_MOST: u64 = 100;
+
+// The largest time, in milliseconds, that a parameter may have.
+pub const TIME_MOST: u64 = 65535;
+
+// Ticks, or the configuration rule (1 or 2) that refuses the pair; of the two, one is 0.
+pub struct Conversion {
+    pub rule: u8,
+    pub ticks: u16,
+}
+
+// The number of ticks that last at least `ms` milliseconds, at `period` milliseconds a tick.
+pub fn to_ticks(period: u64, ms: u64) -> Conversion
+    ensures { λ r. ⌜ r ≡ conversionOf period ms ⌝ }
+{
+    if period < PERIOD_LEAST {
+        return Conversion { rule: 1, ticks: 0 };
+    }
+    if PERIOD_MOST < period {
+        return Conversion { rule: 1, ticks: 0 };
+    }
+    if TIME_MOST < ms {
+        return Conversion { rule: 2, ticks: 0 };
+    }
+    Conversion {
+        rule: 0,
+        ticks: ((ms + (period - 1)) / period) as u16,
+    }
+}

@@ -1,0 +1,204 @@
+//! The functions of the proved libraries, called as a C host calls them.
+
+/// How many numbers a configuration is handed over as.
+pub const NUMBERS: usize = 20;
+
+#[repr(C)]
+#[derive(Clone, Copy, Debug, PartialEq, Eq)]
+pub struct Ticks {
+    pub answer: u32,
+    pub rule: u32,
+    pub ticks: u32,
+}
+
+#[repr(C)]
+#[derive(Clone, Copy, Debug, PartialEq, Eq)]
+pub struct Filter {
+    pub answer: u32,
+    pub keep: u32,
+}
+
+#[repr(C)]
+#[derive(Clone, Copy, Debug, PartialEq, Eq)]
+pub struct Header {
+    pub answer: u32,
+    pub rule: u32,
+    pub sni: u32,
+    pub cbv: u32,
+}
+
+#[repr(C)]
+#[derive(Clone, Copy, Debug, PartialEq, Eq)]
+pub struct Composed {
+    pub answer: u32,
+    pub rule: u32,
+}
+
+#[repr(C)]
+#[derive(Clone, Copy, Debug, PartialEq, Eq)]
+pub struct Place {
+    pub inside: u32,
+    pub value: u32,
+}
+
+mod raw {
+    use super::{Composed, Filter, Header, Place, Ticks};
+
+    extern "C" {
+        // libcannm_c.a, as include/cannm.h declares them
+        pub fn cannm_ticks(period_ms: u32, time_ms: u32) -> Ticks;
+        pub fn cannm_pn_filter(
+            all_keep_awake: u32,
+            cbv: u32,
+            pn: *const u8,
+            pn_length: usize,
+            mask: *const u8,
+            mask_length: usize,
+        ) -> Filter;
+        pub fn cannm_read_pdu(
+            length: u32,
+            sni_position: u32,
+            cbv_position: u32,
+            pdu: *const u8,
+            pdu_length: usize,
+        ) -> Header;
+
+        // libtest_host.a
+        pub fn test_first_broken_rule(
+            numbers: *const u64,
+            numbers_length: usize,
+            mask: *const u8,
+            mask_length: usize,
+        ) -> u32;
+        pub fn test_compose(
+            numbers: *const u64,
+            numbers_length: usize,
+            mask: *const u8,
+            mask_length: usize,
+            sni: u32,
+            cbv: u32,
+            pn: *const u8,
+            pn_length: usize,
+            user: *const u8,
+            user_length: usize,
+            frame: *mut u8,
+            frame_length: usize,
+        ) -> Composed;
+        pub fn test_read(
+            numbers: *const u64,
+            numbers_length: usize,
+            mask: *const u8,
+            mask_length: usize,
+            pdu: *const u8,
+            pdu_length: usize,
+            pn: *mut u8,
+            pn_length: usize,
+            user: *mut u8,
+            user_length: usize,
+        ) -> Header;
+        pub fn test_pnc_number(start: u32, length: u32, bit: u32) -> Place;
+        pub fn test_pnc_bit(start: u32, length: u32, number: u32) -> Place;
+    }
+}
+
+/// Where a string starts; NULL if it is empty, as the C interface allows.
+fn start_of(bytes: &[u8]) -> *const u8 {
+    if bytes.is_empty() {
+        std::ptr::null()
+    } else {
+        bytes.as_ptr()
+    }
+}
+
+pub fn ticks(period_ms: u32, time_ms: u32) -> Ticks {
+    // SAFETY: the function takes numbers alone.
+    unsafe { raw::cannm_ticks(period_ms, time_ms) }
+}
+
+pub fn pn_filter(all_keep_awake: u32, cbv: u32, pn: &[u8], mask: &[u8]) -> Filter {
+    // SAFETY: each pointer is lent with the length of its string, NULL only with length 0.
+    unsafe {
+        raw::cannm_pn_filter(
+            all_keep_awake,
+            cbv,
+            start_of(pn),
+            pn.len(),
+            start_of(mask),
+            mask.len(),
+        )
+    }
+}
+
+pub fn read_pdu(length: u32, sni_position: u32, cbv_position: u32, pdu: &[u8]) -> Header {
+    // SAFETY: the pointer is lent with the length of its string, NULL only with length 0.
+    unsafe { raw::cannm_read_pdu(length, sni_position, cbv_position, start_of(pdu), pdu.len()) }
+}
+
+pub fn first_broken_rule(numbers: &[u64; NUMBERS], mask: &[u8]) -> u32 {
+    // SAFETY: each pointer is lent with the length of its slice.
+    unsafe {
+        raw::test_first_broken_rule(numbers.as_ptr(), numbers.len(), mask.as_ptr(), mask.len())
+    }
+}
+
+pub fn compose(
+    numbers: &[u64; NUMBERS],
+    mask: &[u8],
+    (sni, cbv): (u8, u8),
+    pn: &[u8],
+    user: &[u8],
+    frame: &mut [u8],
+) -> Composed {
+    // SAFETY: each pointer is lent with the length of its slice, and the frame alone is written.
+    unsafe {
+        raw::test_compose(
+            numbers.as_ptr(),
+            numbers.len(),
+            mask.as_ptr(),
+            mask.len(),
+            sni.into(),
+            cbv.into(),
+            pn.as_ptr(),
+            pn.len(),
+            user.as_ptr(),
+            user.len(),
+            frame.as_mut_ptr(),
+            frame.len(),
+        )
+    }
+}
+
+pub fn read(
+    numbers: &[u64; NUMBERS],
+    mask: &[u8],
+    pdu: &[u8],
+    pn: &mut [u8],
+    user: &mut [u8],
+) -> Header {
+    // SAFETY: each pointer is lent with the length of its slice, and only `pn` and `user`, which do
+    // not overlap, are written.
+    unsafe {
+        raw::test_read(
+            numbers.as_ptr(),
+            numbers.len(),
+            mask.as_ptr(),
+            mask.len(),
+            pdu.as_ptr(),
+            pdu.len(),
+            pn.as_mut_ptr(),
+            pn.len(),
+            user.as_mut_ptr(),
+            user.len(),
+        )
+    }
+}
+
+pub fn pnc_number(start: u32, length: u32, bit: u32) -> Place {
+    // SAFETY: the function takes numbers alone.
+    unsafe { raw::test_pnc_number(start, length, bit) }
+}
+
+pub fn pnc_bit(start: u32, length: u32, number: u32) -> Place {
+    // SAFETY: the function takes numbers alone.
+    unsafe { raw::test_pnc_bit(start, length, number) }
+}
