@@ -1,5 +1,21 @@
 //! What a call answers: a value (answer 0) or one numbered refusal.
 
+/// Answer 0: the call was carried out.
+pub const DONE: u8 = 0;
+/// Answer 1: the state handed in is not sound.
+pub const NOT_SOUND: u8 = 1;
+/// Answer 2: the configuration breaks a rule.
+pub const BROKEN_RULE: u8 = 2;
+/// Answer 3: the call does not belong to the state the channel is in.
+pub const WRONG_STATE: u8 = 3;
+/// Answer 4: the call is not for a passive channel.
+pub const PASSIVE: u8 = 4;
+/// Answer 5: a byte string has the wrong length, or a frame buffer is too
+/// short.
+pub const WRONG_LENGTH: u8 = 5;
+/// Answer 6: the call needs PN, and PN is off.
+pub const PN_OFF: u8 = 6;
+
 /// Why a call was refused.
 #[derive(Clone, Copy, Debug, PartialEq, Eq)]
 pub enum Refusal {
@@ -14,8 +30,8 @@ impl Refusal {
     /// The number in the paper's table of answers.
     pub fn number(self) -> u8 {
         match self {
-            Refusal::Rule(_) => 2,
-            Refusal::Length => 5,
+            Refusal::Rule(_) => BROKEN_RULE,
+            Refusal::Length => WRONG_LENGTH,
         }
     }
 
@@ -34,7 +50,7 @@ pub type Answer<T> = Result<T, Refusal>;
 /// The answer number and the rule number beside it, `(0, 0)` for `Ok`.
 pub fn numbers<T>(answer: &Answer<T>) -> (u8, u8) {
     match answer {
-        Ok(_) => (0, 0),
+        Ok(_) => (DONE, 0),
         Err(refusal) => (refusal.number(), refusal.rule()),
     }
 }

@@ -178,6 +178,23 @@ impl Times {
             pn_reset: convert(cfg.pn_reset)?,
         })
     }
+
+    /// Whether `of` gives these times. The configuration keeps rules 1 and 2.
+    fn are_of(&self, cfg: &Config) -> bool {
+        // The one multiple of the period that is not below the time and less
+        // than a period above it.
+        let comes_to = |ms: u64, ticks: u64| {
+            ticks <= LONGEST_MS && (ms..ms + cfg.period).contains(&(ticks * cfg.period))
+        };
+        comes_to(cfg.timeout, self.timeout)
+            && comes_to(cfg.wait, self.wait)
+            && comes_to(cfg.repeat, self.repeat)
+            && comes_to(cfg.cycle, self.cycle)
+            && comes_to(cfg.offset, self.offset)
+            && comes_to(cfg.fast_cycle, self.fast_cycle)
+            && comes_to(cfg.remote, self.remote)
+            && comes_to(cfg.pn_reset, self.pn_reset)
+    }
 }
 
 /// The number of the first rule that is broken, 0 if the configuration passes.
@@ -188,15 +205,31 @@ pub fn first_broken_rule(cfg: &Config) -> u8 {
 /// The times in ticks of a configuration that passes, or the first broken
 /// rule.
 pub fn checked_times(cfg: &Config) -> Result<Times, u8> {
-    require(1, PERIOD_MS.contains(&cfg.period))?;
-    require(2, values_in_bounds(cfg))?;
+    check_values(cfg)?;
     let times = Times::of(cfg)?;
+    check_ticks_and_layout(cfg, &times)?;
+    Ok(times)
+}
+
+/// Whether the configuration passes and comes to just these times. Says the
+/// same as a comparison with `checked_times`, without its divisions.
+pub fn passes_with(cfg: &Config, times: &Times) -> bool {
+    check_values(cfg).is_ok() && times.are_of(cfg) && check_ticks_and_layout(cfg, times).is_ok()
+}
+
+/// Rules 1 and 2, which look at the numbers as they came.
+fn check_values(cfg: &Config) -> Result<(), u8> {
+    require(1, PERIOD_MS.contains(&cfg.period))?;
+    require(2, values_in_bounds(cfg))
+}
+
+/// Rules 3 to 8; `times` are those of the configuration.
+fn check_ticks_and_layout(cfg: &Config, times: &Times) -> Result<(), u8> {
     require(3, times.offset < times.cycle)?;
     require(4, cfg.fast_count == 0 || times.fast_cycle >= 1)?;
     require(5, times.timeout > times.cycle)?;
     check_header(cfg.sni, cfg.cbv, cfg.length)?;
-    require(8, pn_part_fits(cfg, &times))?;
-    Ok(times)
+    require(8, pn_part_fits(cfg, times))
 }
 
 /// Rules 6 and 7 alone: all that the place of SNI and CBV depends on.
@@ -565,6 +598,48 @@ pub(crate) mod tests {
     }
 
     #[test]
+    fn times_are_known_again_without_dividing() {
+        for period in PERIOD_MS {
+            for ms in (1..=300).chain(65_235..=LONGEST_MS) {
+                let cfg = Config {
+                    period,
+                    timeout: LONGEST_MS,
+                    wait: ms,
+                    cycle: 1,
+                    ..PLAIN
+                };
+                let times = checked_times(&cfg).unwrap();
+                let exact = times.wait;
+                for wait in [exact - 1, exact, exact + 1, exact + 100, LONGEST_MS + 1] {
+                    let times = Times { wait, ..times };
+                    assert_eq!(passes_with(&cfg, &times), wait == exact);
+                }
+            }
+        }
+        let times = checked_times(&PN).unwrap();
+        let changes: [fn(&mut Times) -> &mut u64; 8] = [
+            |t| &mut t.timeout,
+            |t| &mut t.wait,
+            |t| &mut t.repeat,
+            |t| &mut t.cycle,
+            |t| &mut t.offset,
+            |t| &mut t.fast_cycle,
+            |t| &mut t.remote,
+            |t| &mut t.pn_reset,
+        ];
+        for field in changes {
+            for change in [1, u64::MAX, 65_536, u64::MAX / 2] {
+                let mut other = times;
+                *field(&mut other) = field(&mut other).wrapping_add(change);
+                assert!(!passes_with(&PN, &other));
+            }
+        }
+        assert!(passes_with(&PN, &times));
+        assert!(!passes_with(&Config { length: 9, ..PN }, &times));
+        assert!(!passes_with(&Config { period: 0, ..PN }, &times));
+    }
+
+    #[test]
     fn ranges_share_out_the_pdu() {
         let mut layouts = 0;
         each_layout(|cfg| {
@@ -638,6 +713,9 @@ pub(crate) mod tests {
                 }
             }
             assert!(first_broken_rule(&cfg) <= 8);
+            let some = checked_times(&PN).unwrap();
+            let times = checked_times(&cfg).unwrap_or(some);
+            assert_eq!(passes_with(&cfg, &times), first_broken_rule(&cfg) == 0);
             assert!(cfg.header_len() <= 2);
             assert!(cfg.pn_range().end <= MAX_BYTES);
             assert!(cfg.user_range().end <= MAX_BYTES);

@@ -11,6 +11,8 @@
 #![warn(missing_docs)]
 
 pub mod answer;
+pub mod book;
+pub mod channel;
 pub mod config;
 pub mod filter;
 pub mod host;

@@ -36,14 +36,7 @@ pub fn compose(cfg: &Config, fields: &Fields<'_>, frame: &mut [u8]) -> Answer<()
     {
         return Err(Refusal::Length);
     }
-    if let Some(byte) = cfg.sni.byte() {
-        frame[byte] = fields.sni;
-    }
-    if let Some(byte) = cfg.cbv.byte() {
-        frame[byte] = fields.cbv;
-    }
-    frame[pn].copy_from_slice(fields.pn);
-    frame[user].copy_from_slice(fields.user);
+    write_fields(cfg, fields, frame);
     Ok(())
 }
 
@@ -56,12 +49,29 @@ pub fn read<'a>(cfg: &Config, pdu: &'a [u8]) -> Answer<Fields<'a>> {
     if pdu.len() != cfg.pdu_len() {
         return Err(Refusal::Length);
     }
-    Ok(Fields {
+    Ok(read_fields(cfg, pdu))
+}
+
+/// Composing where nothing is to be refused.
+pub(crate) fn write_fields(cfg: &Config, fields: &Fields<'_>, frame: &mut [u8]) {
+    if let Some(byte) = cfg.sni.byte() {
+        frame[byte] = fields.sni;
+    }
+    if let Some(byte) = cfg.cbv.byte() {
+        frame[byte] = fields.cbv;
+    }
+    frame[cfg.pn_range()].copy_from_slice(fields.pn);
+    frame[cfg.user_range()].copy_from_slice(fields.user);
+}
+
+/// Reading where nothing is to be refused.
+pub(crate) fn read_fields<'a>(cfg: &Config, pdu: &'a [u8]) -> Fields<'a> {
+    Fields {
         sni: cfg.sni.byte().map_or(0, |byte| pdu[byte]),
         cbv: cfg.cbv.byte().map_or(0, |byte| pdu[byte]),
         pn: &pdu[cfg.pn_range()],
         user: &pdu[cfg.user_range()],
-    })
+    }
 }
 
 fn check(cfg: &Config) -> Answer<()> {

@@ -16,7 +16,8 @@ use Rattle.config.specs.Bounds.{within}
 use Rattle.config.specs.Ranges.{headerLength}
 use Rattle.config.specs.Rules.{
   firstBroken,
-  inTicks,
+  firstBrokenBy,
+  ticksFor,
   rule1,
   rule2,
   rule3,
@@ -59,7 +60,7 @@ each (x ∷ xs) d e zero h = same-true (x .got) (x .wanted) (and-left (same (x .
 each (x ∷ xs) d e (suc k) h = each xs d (and-right (same (x .got) (x .wanted)) (pass xs) e) k (le-of-suc-le-suc h)
 
 all-pass : pass table ≡ true
-unfolding pass same conversionOf ticksOf firstBroken inTicks rule1 rule2 rule3 rule4 rule5 rule6 rule7 rule8 timesWithin pnRange pnTime pnAbsent within headerLength verdictOf keeps someMasked
+unfolding pass same conversionOf ticksOf firstBroken firstBrokenBy ticksFor rule1 rule2 rule3 rule4 rule5 rule6 rule7 rule8 timesWithin pnRange pnTime pnAbsent within headerLength verdictOf keeps someMasked
 all-pass = refl
 
 pub every-case : (none : Case) (k : ℕ) → k < length table → getD table k none .got ≡ getD table k none .wanted

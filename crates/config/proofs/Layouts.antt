@@ -11,7 +11,7 @@ use Rattle.choice.proofs.Tests.{and-left, and-right, or-cases}
 use Rattle.config.specs.declared.Config.{Config}
 use Rattle.config.specs.declared.Layout.{Layout}
 use Rattle.config.specs.Ranges.{off, bytesOf, headerLength, userLength, userStart, userLengthOf, userStartOf}
-use Rattle.config.specs.Rules.{rule7, rule8, pnRange, pnAbsent, pnTime, placed, behind}
+use Rattle.config.specs.Rules.{rule7, rule8, ticksFor, pnRange, pnAbsent, pnTime, placed, behind}
 use Rattle.config.proofs.Passes.{Passes}
 
 -- the positions of source node id and control bit vector that rule 7 admits, with the header's length
@@ -186,14 +186,14 @@ placed-by c p = go (c .pn .on) (p .partial)
     ranged a b d (inr e) = closes (leb-true h f b) (eqb-true (f + n) l e)
 
     go : (t : Bool)
-        → cond t (not (eqb (c .layout .cbv) off) && pnRange c && eqb (c .pn .masked) n && pnTime c) (pnAbsent c) ≡ true
+        → cond t (not (eqb (c .layout .cbv) off) && pnRange c && eqb (c .pn .masked) n && pnTime (ticksFor c)) (pnAbsent c) ≡ true
         → Placed l h f n
     go false e =
         let k = and-left (eqb f 0 && eqb n 0) (eqb (c .times .reset) 0) e in
         without (headed (c .layout) (p .header) .fits) (eqb-true f 0 (and-left (eqb f 0) (eqb n 0) k)) (eqb-true n 0 (and-right (eqb f 0) (eqb n 0) k))
     go true e =
         let present = not (eqb (c .layout .cbv) off) in
-        let k = and-left (present && pnRange c) (eqb (c .pn .masked) n) (and-left (present && pnRange c && eqb (c .pn .masked) n) (pnTime c) e) in
+        let k = and-left (present && pnRange c) (eqb (c .pn .masked) n) (and-left (present && pnRange c && eqb (c .pn .masked) n) (pnTime (ticksFor c)) e) in
         let r = and-right present (pnRange c) k in
         let a = leb 1 n in
         let b = leb h f in

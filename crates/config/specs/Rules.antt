@@ -4,6 +4,7 @@ use mathlib.Core.Bool.{Bool, true, false, cond, not, _&&_, _||_}
 use lib.Dec.{leb, ltb, eqb}
 use Rattle.ticks.specs.Ticks.{conversionOf}
 use Rattle.config.specs.declared.Config.{Config}
+use Rattle.config.specs.declared.Ticks.{Ticks}
 use Rattle.config.specs.declared.Times.{Times}
 use Rattle.config.specs.declared.Layout.{Layout}
 use Rattle.config.specs.Bounds.{
@@ -23,9 +24,22 @@ use Rattle.config.specs.Bounds.{
 }
 use Rattle.config.specs.Ranges.{off, headerLength}
 
--- a time of the configuration in ticks of its main function
-unfoldable pub inTicks : Config → ℕ → ℕ
+-- the times of a configuration in ticks of its main function: rules 3 to 5 and 8 compare these
+abbrev pub inTicks : Config → ℕ → ℕ
 inTicks c ms = conversionOf (c .period) ms .ticks
+
+unfoldable pub ticksFor : Config → Ticks
+ticksFor c =
+    record {
+      timeout = inTicks c (c .times .timeout);
+      wait = inTicks c (c .times .wait);
+      repeat = inTicks c (c .times .repeat);
+      cycle = inTicks c (c .times .cycle);
+      offset = inTicks c (c .times .offset);
+      fast = inTicks c (c .times .fast);
+      remote = inTicks c (c .times .remote);
+      reset = inTicks c (c .times .reset);
+    }
 
 -- 1: the period of the main function
 unfoldable pub rule1 : Config → Bool
@@ -47,16 +61,16 @@ unfoldable pub rule2 : Config → Bool
 rule2 c = timesWithin (c .times) && within immediateRow (c .immediate) && within nodeRow (c .node)
 
 -- 3: the offset is below the cycle, in ticks
-unfoldable pub rule3 : Config → Bool
-rule3 c = ltb (inTicks c (c .times .offset)) (inTicks c (c .times .cycle))
+unfoldable pub rule3 : Ticks → Bool
+rule3 t = ltb (t .offset) (t .cycle)
 
 -- 4: fast frames have a cycle of at least one tick
-unfoldable pub rule4 : Config → Bool
-rule4 c = eqb (c .immediate) 0 || leb 1 (inTicks c (c .times .fast))
+unfoldable pub rule4 : Config → Ticks → Bool
+rule4 c t = eqb (c .immediate) 0 || leb 1 (t .fast)
 
 -- 5: the timeout is above the cycle, in ticks
-unfoldable pub rule5 : Config → Bool
-rule5 c = ltb (inTicks c (c .times .cycle)) (inTicks c (c .times .timeout))
+unfoldable pub rule5 : Ticks → Bool
+rule5 t = ltb (t .cycle) (t .timeout)
 
 -- 6: the length of the PDU
 unfoldable pub rule6 : Layout → Bool
@@ -87,18 +101,16 @@ pnRange c =
     && leb (c .pn .start + c .pn .length) (c .layout .length)
     && (eqb (c .pn .start) (headerLength (c .layout)) || eqb (c .pn .start + c .pn .length) (c .layout .length))
 
-unfoldable pub pnTime : Config → Bool
-pnTime c =
-    ltb (inTicks c (c .times .cycle)) (inTicks c (c .times .reset))
-    && ltb (inTicks c (c .times .reset)) (inTicks c (c .times .timeout))
+unfoldable pub pnTime : Ticks → Bool
+pnTime t = ltb (t .cycle) (t .reset) && ltb (t .reset) (t .timeout)
 
 unfoldable pub pnAbsent : Config → Bool
 pnAbsent c = eqb (c .pn .start) 0 && eqb (c .pn .length) 0 && eqb (c .times .reset) 0
 
-unfoldable pub rule8 : Config → Bool
-rule8 c =
+unfoldable pub rule8 : Config → Ticks → Bool
+rule8 c t =
     cond (c .pn .on)
-    (not (eqb (c .layout .cbv) off) && pnRange c && eqb (c .pn .masked) (c .pn .length) && pnTime c)
+    (not (eqb (c .layout .cbv) off) && pnRange c && eqb (c .pn .masked) (c .pn .length) && pnTime t)
     (pnAbsent c)
 
 -- the number n where a rule is broken, else what the later rules say
@@ -109,12 +121,15 @@ unless kept n later = cond kept later n
 unfoldable pub firstBrokenOfHeader : Layout → ℕ
 firstBrokenOfHeader l = unless (rule6 l) 6 (unless (rule7 l) 7 0)
 
--- the first broken rule, 0 if none is
-unfoldable pub firstBroken : Config → ℕ
-firstBroken c =
+-- the first broken rule, 0 if none is, where the times come to these ticks
+unfoldable pub firstBrokenBy : Config → Ticks → ℕ
+firstBrokenBy c t =
     unless (rule1 c) 1
     (unless (rule2 c) 2
-    (unless (rule3 c) 3
-    (unless (rule4 c) 4
-    (unless (rule5 c) 5
-    (unless (rule6 (c .layout)) 6 (unless (rule7 (c .layout)) 7 (unless (rule8 c) 8 0)))))))
+    (unless (rule3 t) 3
+    (unless (rule4 c t) 4
+    (unless (rule5 t) 5
+    (unless (rule6 (c .layout)) 6 (unless (rule7 (c .layout)) 7 (unless (rule8 c t) 8 0)))))))
+
+unfoldable pub firstBroken : Config → ℕ
+firstBroken c = firstBrokenBy c (ticksFor c)

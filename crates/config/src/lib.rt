@@ -12,6 +12,7 @@ ghost use Rattle.config.specs.Ranges.{off, bytesOf, headerLength, userSt
 ghost use Rattle.config.specs.Rules.{
   behind,
   firstBroken,
+  firstBrokenBy,
   firstBrokenOfHeader,
   inTicks,
   placed,
@@ -26,6 +27,7 @@ ghost use Rattle.config.specs.Rules.{
   rule6,
   rule7,
   rule8,
+  ticksFor,
   timesWithin,
 };
 
@@ -41,6 +43,18 @@ pub struct Times {
     pub fast: u64, // CanNmImmediateNmCycleTime, IC
     pub remote: u64, // CanNmRemoteSleepIndTime, RS
     pub reset: u64, // CanNmPnResetTime, P
+}
+
+// The same times in ticks of the main function.
+pub struct Ticks {
+    pub timeout: u16,
+    pub wait: u16,
+    pub repeat: u16,
+    pub cycle: u16,
+    pub offset: u16,
+    pub fast: u16,
+    pub remote: u16,
+    pub reset: u16,
 }
 
 // The header of the PDU: its length L and the bytes of the source node id and of the control bit vector.
@@ -171,11 +185,27 @@ pub fn user_start(c: Config) -> u64
 // ---- the rules
 
 // A time in ticks of the main function.
-pub fn in_ticks(c: Config, ms: u64) -> u16
+fn in_ticks(c: Config, ms: u64) -> u16
     ensures { λ r. ⌜ r ≡ inTicks c ms ⌝ }
 {
     let t = ticks::to_ticks(c.period, ms);
     t.ticks
+}
+
+// The times of a configuration in ticks; all 0 where the period is out of bounds.
+pub fn ticks_for(c: Config) -> Ticks
+    ensures { λ r. ⌜ r ≡ ticksFor c ⌝ }
+{
+    Ticks {
+        timeout: in_ticks(c, c.times.timeout),
+        wait: in_ticks(c, c.times.wait),
+        repeat: in_ticks(c, c.times.repeat),
+        cycle: in_ticks(c, c.times.cycle),
+        offset: in_ticks(c, c.times.offset),
+        fast: in_ticks(c, c.times.fast),
+        remote: in_ticks(c, c.times.remote),
+        reset: in_ticks(c, c.times.reset),
+    }
 }
 
 fn times_within(t: Times) -> bool
@@ -204,22 +234,22 @@ fn bounds_rule(c: Config) -> bool
     choice::both(ok, in_bounds(NODE, c.node))
 }
 
-fn offset_rule(c: Config) -> bool
-    ensures { λ r. ⌜ r ≡ rule3 c ⌝ }
+fn offset_rule(t: Ticks) -> bool
+    ensures { λ r. ⌜ r ≡ rule3 t ⌝ }
 {
-    in_ticks(c, c.times.offset) < in_ticks(c, c.times.cycle)
+    t.offset < t.cycle
 }
 
-fn fast_rule(c: Config) -> bool
-    ensures { λ r. ⌜ r ≡ rule4 c ⌝ }
+fn fast_rule(c: Config, t: Ticks) -> bool
+    ensures { λ r. ⌜ r ≡ rule4 c t ⌝ }
 {
-    choice::either(c.immediate == 0, 1 <= in_ticks(c, c.times.fast))
+    choice::either(c.immediate == 0, 1 <= t.fast)
 }
 
-fn timeout_rule(c: Config) -> bool
-    ensures { λ r. ⌜ r ≡ rule5 c ⌝ }
+fn timeout_rule(t: Ticks) -> bool
+    ensures { λ r. ⌜ r ≡ rule5 t ⌝ }
 {
-    in_ticks(c, c.times.cycle) < in_ticks(c, c.times.timeout)
+    t.cycle < t.timeout
 }
 
 fn length_rule(l: Layout) -> bool
@@ -288,14 +318,10 @@ fn pn_range_rule(c: Config) -> bool
     )
 }
 
-fn pn_time_rule(c: Config) -> bool
-    ensures { λ r. ⌜ r ≡ pnTime c ⌝ }
+fn pn_time_rule(t: Ticks) -> bool
+    ensures { λ r. ⌜ r ≡ pnTime t ⌝ }
 {
-    let p = in_ticks(c, c.times.reset);
-    choice::both(
-        in_ticks(c, c.times.cycle) < p,
-        p < in_ticks(c, c.times.timeout),
-    )
+    choice::both(t.cycle < t.reset, t.reset < t.timeout)
 }
 
 fn pn_absent_rule(c: Config) -> bool
@@ -307,13 +333,13 @@ fn pn_absent_rule(c: Config) -> bool
     )
 }
 
-fn pn_rule(c: Config) -> bool
-    ensures { λ r. ⌜ r ≡ rule8 c ⌝ }
+fn pn_rule(c: Config, t: Ticks) -> bool
+    ensures { λ r. ⌜ r ≡ rule8 c t ⌝ }
 {
     if c.pn.on {
         let mut ok = choice::both(c.layout.cbv != OFF, pn_range_rule(c));
         ok = choice::both(ok, c.pn.masked == c.pn.length);
-        return choice::both(ok, pn_time_rule(c));
+        return choice::both(ok, pn_time_rule(t));
     }
     pn_absent_rule(c)
 }
@@ -327,16 +353,23 @@ pub fn first_broken_of_header(l: Layout) -> u8
     choice::pick8(length_rule(l), choice::pick8(header_rule(l), 0, 7), 6)
 }
 
-// Of the whole configuration: 0 where it passes.
+// Of the whole configuration, with the ticks that its times come to: 0 where it passes.
+pub fn first_broken_by(c: Config, t: Ticks) -> u8
+    ensures { λ r. ⌜ r ≡ firstBrokenBy c t ⌝ }
+{
+    let eighth = choice::pick8(pn_rule(c, t), 0, 8);
+    let seventh = choice::pick8(header_rule(c.layout), eighth, 7);
+    let sixth = choice::pick8(length_rule(c.layout), seventh, 6);
+    let fifth = choice::pick8(timeout_rule(t), sixth, 5);
+    let fourth = choice::pick8(fast_rule(c, t), fifth, 4);
+    let third = choice::pick8(offset_rule(t), fourth, 3);
+    let second = choice::pick8(bounds_rule(c), third, 2);
+    choice::pick8(period_rule(c), second, 1)
+}
+
+// Of the configuration alone.
 pub fn first_broken_rule(c: Config) -> u8
     ensures { λ r. ⌜ r ≡ firstBroken c ⌝ }
 {
-    let eighth = choice::pick8(pn_rule(c), 0, 8);
-    let seventh = choice::pick8(header_rule(c.layout), eighth, 7);
-    let sixth = choice::pick8(length_rule(c.layout), seventh, 6);
-    let fifth = choice::pick8(timeout_rule(c), sixth, 5);
-    let fourth = choice::pick8(fast_rule(c), fifth, 4);
-    let third = choice::pick8(offset_rule(c), fourth, 3);
-    let second = choice::pick8(bounds_rule(c), third, 2);
-    choice::pick8(period_rule(c), second, 1)
+    first_broken_by(c, ticks_for(c))
 }

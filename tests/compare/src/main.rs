@@ -130,7 +130,7 @@ fn ticks(rng: &mut Rng, seen: &mut Seen) -> Result<(), String> {
         2 => seen.add(Kind::TicksRule2),
         _ => {
             seen.add(Kind::TicksDone);
-            let begun = time % period != 0;
+            let begun = want.value * u64::from(period) != u64::from(time);
             seen.add_if(!begun, Kind::TicksWhole);
             seen.add_if(begun, Kind::TicksBegun);
         }

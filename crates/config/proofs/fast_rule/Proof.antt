@@ -5,7 +5,7 @@ use Rattle.config.proofs.fast_rule.Tie as tie
 
 returns : tie.Need-returns
 unfolding rule4
-returns c = rw (c .either .ensures, c .before .in-ticks .ensures)
+returns c = rw (c .either .ensures)
 
 pub fast-rule-spec : {M : Type 1} → statement M
-fast-rule-spec = tie.close (tie.spec (λ c κs. tt) (λ c κs. tt) returns)
+fast-rule-spec = tie.close (tie.spec (λ c κs. tt) returns)

@@ -5,7 +5,7 @@ use Rattle.config.proofs.first_broken_rule.Tie as tie
 
 returns : tie.Need-returns
 unfolding firstBroken
-returns c = rw (c .pick88 .ensures, c .before .period-rule .ensures, c .before .before .pick87 .ensures, c .before .before .before .bounds-rule .ensures, c .before .before .before .before .pick86 .ensures, c .before .before .before .before .before .offset-rule .ensures, c .before .before .before .before .before .before .pick85 .ensures, c .before .before .before .before .before .before .before .fast-rule .ensures, c .before .before .before .before .before .before .before .before .pick84 .ensures, c .before .before .before .before .before .before .before .before .before .timeout-rule .ensures, c .before .before .before .before .before .before .before .before .before .before .pick83 .ensures, c .before .before .before .before .before .before .before .before .before .before .before .length-rule .ensures, c .before .before .before .before .before .before .before .before .before .before .before .before .pick82 .ensures, c .before .before .before .before .before .before .before .before .before .before .before .before .before .header-rule .ensures, c .before .before .before .before .before .before .before .before .before .before .before .before .before .before .pick8 .ensures, c .before .before .before .before .before .before .before .before .before .before .before .before .before .before .before .pn-rule .ensures)
+returns c = rw (c .first-broken-by .ensures, c .before .ticks-for .ensures)
 
 pub first-broken-rule-spec : {M : Type 1} → statement M
-first-broken-rule-spec = tie.close (tie.spec (λ c κs. tt) (λ c κs. tt) (λ c κs. tt) (λ c κs. tt) (λ c κs. tt) (λ c κs. tt) (λ c κs. tt) (λ c κs. tt) (λ c κs. tt) (λ c κs. tt) (λ c κs. tt) (λ c κs. tt) (λ c κs. tt) (λ c κs. tt) (λ c κs. tt) (λ c κs. tt) returns)
+first-broken-rule-spec = tie.close (tie.spec (λ c κs. tt) (λ c κs. tt) returns)

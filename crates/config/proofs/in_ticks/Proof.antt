@@ -1,10 +1,8 @@
 -- `config::in_ticks` meets its contract. Assumes nothing.
-use Rattle.config.specs.Rules.{inTicks}
 use Rattle.config.proofs.in_ticks.Statement.{statement}
 use Rattle.config.proofs.in_ticks.Tie as tie
 
 returns : tie.Need-returns
-unfolding inTicks
 returns c = rw (c .to-ticks .ensures)
 
 pub in-ticks-spec : {M : Type 1} → statement M

@@ -5,7 +5,7 @@ use Rattle.config.proofs.pn_time_rule.Tie as tie
 
 returns : tie.Need-returns
 unfolding pnTime
-returns c = rw (c .both .ensures, c .before .in-ticks3 .ensures, c .before .before .in-ticks2 .ensures, c .before .before .before .in-ticks .ensures)
+returns c = rw (c .both .ensures)
 
 pub pn-time-rule-spec : {M : Type 1} → statement M
-pn-time-rule-spec = tie.close (tie.spec (λ c κs. tt) (λ c κs. tt) (λ c κs. tt) (λ c κs. tt) returns)
+pn-time-rule-spec = tie.close (tie.spec (λ c κs. tt) returns)
