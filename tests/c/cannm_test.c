@@ -41,10 +41,16 @@ enum kind {
 };
 
 static const char *const kind_names[KINDS] = {
-    "ticks: answer 0",        "ticks: answer 2, rule 1",   "ticks: answer 2, rule 2",
-    "filter: answer 0, kept", "filter: answer 0, dropped", "filter: answer 5",
-    "read: answer 0",         "read: answer 2, rule 6",    "read: answer 2, rule 7",
-    "read: answer 5",
+    [TICKS_DONE] = "ticks: answer 0",
+    [TICKS_RULE_1] = "ticks: answer 2, rule 1",
+    [TICKS_RULE_2] = "ticks: answer 2, rule 2",
+    [FILTER_KEPT] = "filter: answer 0, kept",
+    [FILTER_DROPPED] = "filter: answer 0, dropped",
+    [FILTER_LENGTH] = "filter: answer 5",
+    [READ_DONE] = "read: answer 0",
+    [READ_RULE_6] = "read: answer 2, rule 6",
+    [READ_RULE_7] = "read: answer 2, rule 7",
+    [READ_LENGTH] = "read: answer 5",
 };
 
 static uint64_t seen[KINDS];
@@ -283,7 +289,7 @@ static void filter_at_the_edges(void) {
     static const uint32_t alls[] = {0, 1, 2, 256, 65536, 0x80000000, MOST};
     static const uint32_t cbvs[] = {0,     0x40,  0x41,  0x3F,       0xBF,       0xFF,
                                     0x100, 0x140, 0x1BF, 0x40000000, 0x80000040, 0xFFFFFFBF};
-    static const uint8_t ones[ROOM] = {1};
+    static const uint8_t head[ROOM] = {1};
     static uint8_t last[ROOM];
 
     /* one byte: every byte and every mask */
@@ -297,7 +303,7 @@ static void filter_at_the_edges(void) {
         for (size_t c = 0; c < COUNT(cbvs); c++)
             for (size_t p = 0; p <= 16; p++) {
                 for (size_t m = 0; m <= 16; m++)
-                    check_filter(alls[a], cbvs[c], ones, p, ones, m);
+                    check_filter(alls[a], cbvs[c], head, p, head, m);
                 for (size_t bit = 0; bit < 8 * p; bit++) {
                     uint8_t one[16] = {0}, rest[16];
                     one[bit / 8] = (uint8_t)(1u << (bit % 8));
@@ -312,7 +318,7 @@ static void filter_at_the_edges(void) {
     static const size_t lengths[] = {0, 1, 2, 255, 256, 257, 258, 65535, 65536, 65537, ROOM};
     for (size_t p = 0; p < COUNT(lengths); p++) {
         for (size_t m = 0; m < COUNT(lengths); m++)
-            check_filter(0, 0x40, ones, lengths[p], ones, lengths[m]);
+            check_filter(0, 0x40, head, lengths[p], head, lengths[m]);
         if (lengths[p] > 0) {
             memset(last, 0, sizeof(last));
             last[lengths[p] - 1] = 0x80;

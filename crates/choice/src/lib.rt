@@ -3,7 +3,7 @@
 //
 // Promises: each function is the library's operation of the same meaning.
 ghost use mathlib.Core.Path.{_≡_};
-ghost use mathlib.Core.Bool.{Bool, true, false, cond, _&&_, _||_, xor};
+ghost use mathlib.Core.Bool.{Bool, true, false, cond, not, _&&_, _||_, xor};
 
 pub fn both(a: bool, b: bool) -> bool
     ensures { λ r. ⌜ r ≡ (a && b) ⌝ }
@@ -15,6 +15,13 @@ pub fn either(a: bool, b: bool) -> bool
     ensures { λ r. ⌜ r ≡ (a || b) ⌝ }
 {
     if a { true } else { b }
+}
+
+// The contrary of a test.
+pub fn negation(a: bool) -> bool
+    ensures { λ r. ⌜ r ≡ not a ⌝ }
+{
+    if a { false } else { true }
 }
 
 pub fn unlike(a: bool, b: bool) -> bool

@@ -347,14 +347,14 @@ fn compose(rng: &mut Rng, seen: &mut Seen) -> Result<(), String> {
     let fields = Fields { sni, cbv, pn, user };
     let outcome = pdu::compose(&cfg, &fields, lent(&mut wanted, frame_length));
     let (answer, rule) = numbers(&outcome);
-    match outcome {
-        Ok(()) => {
+    match answer {
+        0 => {
             seen.add(Kind::ComposeDone);
             seen.add_if(frame_length > right.2, Kind::ComposeRoom);
             see_layout(&cfg, seen);
         }
-        Err(Refusal::Rule(_)) => seen.add(Kind::ComposeRule),
-        Err(Refusal::Length) => {
+        2 => seen.add(Kind::ComposeRule),
+        _ => {
             seen.add_if(pn_length != right.0, Kind::ComposePn);
             seen.add_if(user_length != right.1, Kind::ComposeUser);
             seen.add_if(frame_length < right.2, Kind::ComposeFrame);
@@ -411,13 +411,13 @@ fn read(rng: &mut Rng, seen: &mut Seen) -> Result<(), String> {
     });
     let (answer, rule) = numbers(&outcome);
     let (sni, cbv) = outcome.unwrap_or((0, 0));
-    match outcome {
-        Ok(_) => {
+    match answer {
+        0 => {
             seen.add(Kind::ReadDone);
             see_layout(&cfg, seen);
         }
-        Err(Refusal::Rule(_)) => seen.add(Kind::ReadRule),
-        Err(Refusal::Length) => {
+        2 => seen.add(Kind::ReadRule),
+        _ => {
             seen.add_if(pdu_length < right.2, Kind::ReadShort);
             seen.add_if(pdu_length > right.2, Kind::ReadLong);
             seen.add_if(pn_length != right.0, Kind::ReadPn);

@@ -1,0 +1,11 @@
+-- `channel::traffic::setup_of` meets its contract. Assumes nothing.
+use Rattle.channel.specs.Traffic.{setupOf}
+use Rattle.channel.proofs.traffic.setup_of.Statement.{statement}
+use Rattle.channel.proofs.traffic.setup_of.Tie as tie
+
+returns : tie.Need-returns
+unfolding setupOf
+returns c = rw (c .narrow .ensures)
+
+pub setup-of-spec : {M : Type 1} → statement M
+setup-of-spec = tie.close (tie.spec (λ c κs. tt) returns)

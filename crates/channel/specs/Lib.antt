@@ -1,0 +1,6 @@
+pub mod State
+pub mod Decision
+pub mod Mode
+pub mod Traffic
+pub mod Notes
+pub mod Sound

@@ -1,0 +1,4 @@
+pub mod decision;
+pub mod mode;
+pub mod state;
+pub mod traffic;
