@@ -3,7 +3,11 @@ use Prim.Native.Nat.{ℕ, _≤_}
 use native.Mathlib.Omega.{arith}
 use Rattle.channel.specs.declared.state.State.{State}
 use Rattle.channel.specs.declared.state.State.the-variants.{
-  BusSleep, PrepareBusSleep, RepeatMessage, NormalOperation, ReadySleep
+  BusSleep,
+  PrepareBusSleep,
+  RepeatMessage,
+  NormalOperation,
+  ReadySleep,
 }
 use Rattle.channel.specs.State.{stateNumber}
 

@@ -4,3 +4,6 @@ pub mod Mode
 pub mod Traffic
 pub mod Notes
 pub mod Sound
+pub mod Heard
+pub mod Refusals
+pub mod Channel

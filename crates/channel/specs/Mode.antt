@@ -5,13 +5,36 @@ use lib.Dec.{leb, eqb}
 use Rattle.config.specs.declared.Ticks.{Ticks}
 use Rattle.channel.specs.declared.state.State.{State}
 use Rattle.channel.specs.declared.state.State.the-variants.{
-  BusSleep, PrepareBusSleep, RepeatMessage, NormalOperation, ReadySleep
+  BusSleep,
+  PrepareBusSleep,
+  RepeatMessage,
+  NormalOperation,
+  ReadySleep,
 }
 use Rattle.channel.specs.declared.state.Mode.{Mode}
 use Rattle.channel.specs.declared.decision.Rule.{Rule}
 use Rattle.channel.specs.declared.decision.Rule.the-variants.{
-  Keep, NotHere, WakeUp, ActiveWakeUp, Request, ToNormal, Release, ToReady, Repeat, Disable, Enable, Confirm, Start, HeardInRepeat,
-  HeardInNormal, HeardInReady, FilterOn, TickInPrepare, TickInRepeat, TickInNormal, TickInReady
+  Keep,
+  NotHere,
+  WakeUp,
+  ActiveWakeUp,
+  Request,
+  ToNormal,
+  Release,
+  ToReady,
+  Repeat,
+  Disable,
+  Enable,
+  Confirm,
+  Start,
+  HeardInRepeat,
+  HeardInNormal,
+  HeardInReady,
+  FilterOn,
+  TickInPrepare,
+  TickInRepeat,
+  TickInNormal,
+  TickInReady,
 }
 
 abbrev pub mode : State → Bool → Bool → Bool → ℕ → ℕ → ℕ → Mode

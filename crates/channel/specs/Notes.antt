@@ -7,13 +7,39 @@ use Rattle.channel.specs.declared.state.Mode.{Mode}
 use Rattle.channel.specs.declared.state.Traffic.{Traffic}
 use Rattle.channel.specs.declared.state.Note.{Note}
 use Rattle.channel.specs.declared.state.Note.the-variants.{
-  Nothing, NetworkMode, NetworkStart, PrepareBusSleep, BusSleep, Timeout, RemoteSleepCancelled, RemoteSleepIndication
+  Nothing,
+  NetworkMode,
+  NetworkStart,
+  PrepareBusSleep,
+  BusSleep,
+  Timeout,
+  RemoteSleepCancelled,
+  RemoteSleepIndication,
 }
 use Rattle.channel.specs.declared.state.Notes.{Notes}
 use Rattle.channel.specs.declared.decision.Rule.{Rule}
 use Rattle.channel.specs.declared.decision.Rule.the-variants.{
-  Keep, NotHere, WakeUp, ActiveWakeUp, Request, ToNormal, Release, ToReady, Repeat, Disable, Enable, Confirm, Start, HeardInRepeat,
-  HeardInNormal, HeardInReady, FilterOn, TickInPrepare, TickInRepeat, TickInNormal, TickInReady
+  Keep,
+  NotHere,
+  WakeUp,
+  ActiveWakeUp,
+  Request,
+  ToNormal,
+  Release,
+  ToReady,
+  Repeat,
+  Disable,
+  Enable,
+  Confirm,
+  Start,
+  HeardInRepeat,
+  HeardInNormal,
+  HeardInReady,
+  FilterOn,
+  TickInPrepare,
+  TickInRepeat,
+  TickInNormal,
+  TickInReady,
 }
 use Rattle.channel.specs.State.{isBusSleep, isPrepare}
 

@@ -11,8 +11,27 @@ use Rattle.channel.specs.declared.state.Traffic.{Traffic}
 use Rattle.channel.specs.declared.traffic.Setup.{Setup}
 use Rattle.channel.specs.declared.decision.Rule.{Rule}
 use Rattle.channel.specs.declared.decision.Rule.the-variants.{
-  Keep, NotHere, WakeUp, ActiveWakeUp, Request, ToNormal, Release, ToReady, Repeat, Disable, Enable, Confirm, Start, HeardInRepeat,
-  HeardInNormal, HeardInReady, FilterOn, TickInPrepare, TickInRepeat, TickInNormal, TickInReady
+  Keep,
+  NotHere,
+  WakeUp,
+  ActiveWakeUp,
+  Request,
+  ToNormal,
+  Release,
+  ToReady,
+  Repeat,
+  Disable,
+  Enable,
+  Confirm,
+  Start,
+  HeardInRepeat,
+  HeardInNormal,
+  HeardInReady,
+  FilterOn,
+  TickInPrepare,
+  TickInRepeat,
+  TickInNormal,
+  TickInReady,
 }
 use Rattle.channel.specs.State.{transmits, isRepeat, isNormal, isPrepare}
 

@@ -1,14 +1,24 @@
 // What decides the state: what each transition rule does to it, and to the NM, wait and repeat timers.
-use config::Ticks;
 use super::decision::Rule;
 use super::state::Mode;
 use super::state::State;
+use config::Ticks;
 ghost use mathlib.Core.Path.{_≡_};
 ghost use mathlib.Core.Bool.{true, false, cond};
 ghost use lib.Dec.{leb, eqb};
 ghost use Rattle.channel.specs.Mode.{
-    enabled, enterNetwork, enterRepeat, heard, modeBy, nmInReady, nmInRepeatOrNormal, prepared, repeatInRepeat, restart,
-    waitInPrepare, withState,
+  enabled,
+  enterNetwork,
+  enterRepeat,
+  heard,
+  modeBy,
+  nmInReady,
+  nmInRepeatOrNormal,
+  prepared,
+  repeatInRepeat,
+  restart,
+  waitInPrepare,
+  withState,
 };
 
 // The only place that makes a mode anew: the same in another state.

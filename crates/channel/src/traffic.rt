@@ -1,17 +1,33 @@
 // Message and remote timers, fast count, indication and bits: what each transition rule does to them.
-use config::Config;
-use config::Ticks;
 use super::decision::Rule;
 use super::state::Mode;
 use super::state::State;
 use super::state::Traffic;
+use config::Config;
+use config::Ticks;
 ghost use mathlib.Core.Path.{_≡_};
 ghost use mathlib.Core.Bool.{cond};
 ghost use lib.Dec.{ltb};
 ghost use Rattle.channel.specs.State.{isNormal, isPrepare, isRepeat, transmits};
 ghost use Rattle.channel.specs.Traffic.{
-    counts, firstMessage, framing, heardInNormal, heardInReady, inNormal, inReady, inRepeat, isDue, resumed, setupOf, toNormal,
-    toReady, toRepeat, toRepeatActive, toRepeatAsked, trafficBy, watching,
+  counts,
+  firstMessage,
+  framing,
+  heardInNormal,
+  heardInReady,
+  inNormal,
+  inReady,
+  inRepeat,
+  isDue,
+  resumed,
+  setupOf,
+  toNormal,
+  toReady,
+  toRepeat,
+  toRepeatActive,
+  toRepeatAsked,
+  trafficBy,
+  watching,
 };
 
 // What the rules here need of the configuration.
@@ -46,7 +62,11 @@ pub fn setup_of(c: Config, t: Ticks) -> Setup
 fn first_message(s: Setup) -> u16
     ensures { λ r. ⌜ r ≡ firstMessage s ⌝ }
 {
-    choice::pick16(s.passive, 0, choice::pick16(s.ticks.offset < 1, 1, s.ticks.offset))
+    choice::pick16(
+        s.passive,
+        0,
+        choice::pick16(s.ticks.offset < 1, 1, s.ticks.offset),
+    )
 }
 
 fn to_repeat(s: Setup, x: Traffic) -> Traffic
@@ -110,7 +130,10 @@ fn resumed(m: Mode, x: Traffic) -> Traffic
 {
     let state = m.state;
     let mut y = x;
-    let stopped = choice::both(choice::negation(m.sending), super::decision::transmits(state));
+    let stopped = choice::both(
+        choice::negation(m.sending),
+        super::decision::transmits(state),
+    );
     y.message = choice::pick16(stopped, 1, x.message);
     y
 }
@@ -191,7 +214,10 @@ fn counts(s: Setup, after: Mode) -> bool
 {
     let state = after.state;
     choice::both(
-        choice::both(super::decision::transmits(state), choice::negation(s.passive)),
+        choice::both(
+            super::decision::transmits(state),
+            choice::negation(s.passive),
+        ),
         after.sending,
     )
 }
@@ -227,7 +253,14 @@ pub fn framing(s: Setup, after: Mode, taken: bool, x: Traffic) -> Traffic
 // ---- the rules
 
 // The traffic after a rule, with the mode before and after it.
-pub fn traffic_by(rule: Rule, again: bool, s: Setup, before: Mode, after: Mode, x: Traffic) -> Traffic
+pub fn traffic_by(
+    rule: Rule,
+    again: bool,
+    s: Setup,
+    before: Mode,
+    after: Mode,
+    x: Traffic,
+) -> Traffic
     ensures { λ r. ⌜ r ≡ trafficBy rule again s before after x ⌝ }
 {
     let state = after.state;

@@ -3,6 +3,9 @@
 // Promises: the number of ticks for every period and time within their bounds, else which configuration rule
 // refuses the pair. Leaves to others: which time belongs to which parameter (`config`).
 ghost use mathlib.Core.Path.{_≡_};
+ghost use lib.Dec.{eqb, leb, ltb};
+ghost use Prim.Native.Nat.{_-_, _*_, _≤_, _<_};
+ghost use mathlib.Core.Bool.{_&&_};
 ghost use Rattle.ticks.specs.Ticks.{conversionOf};
 
 // The period of the main function, in milliseconds: smallest and largest.
@@ -36,4 +39,37 @@ pub fn to_ticks(period: u64, ms: u64) -> Conversion
         rule: 0,
         ticks: ((ms + (period - 1)) / period) as u16,
     }
+}
+
+// Do `count` ticks, and no fewer, last `ms` milliseconds?
+fn covers(period: u64, ms: u64, count: u64) -> bool
+    requires { ⌜ (period ≤ 100) × (1 ≤ count) × (count < 65536) ⌝ }
+    ensures { λ r. ⌜ r ≡ (leb ms (count * period) && ltb ((count - 1) * period) ms) ⌝ }
+{
+    if ms <= count * period {
+        return (count - 1) * period < ms;
+    }
+    false
+}
+
+// Is a number of ticks the one that `to_ticks` gives? Found by multiplying, so that a kept conversion is cheap to check.
+pub fn is_conversion(period: u64, ms: u64, ticks: u16) -> bool
+    ensures { λ r. ⌜ r ≡ eqb ticks (conversionOf period ms .ticks) ⌝ }
+{
+    if period < PERIOD_LEAST {
+        return ticks == 0;
+    }
+    if PERIOD_MOST < period {
+        return ticks == 0;
+    }
+    if TIME_MOST < ms {
+        return ticks == 0;
+    }
+    if ms == 0 {
+        return ticks == 0;
+    }
+    if ticks == 0 {
+        return false;
+    }
+    covers(period, ms, ticks as u64)
 }

@@ -4,7 +4,17 @@ use Prim.Native.Nat.{ℕ, _+_, _≤_}
 use native.Mathlib.Omega.{arith}
 use lib.ListN.{List·getD-eq-default}
 use Rattle.channel.specs.declared.decision.Rule.the-variants.{
-  Keep, NotHere, WakeUp, ActiveWakeUp, Request, Release, Repeat, Disable, Enable, Confirm, FilterOn
+  Keep,
+  NotHere,
+  WakeUp,
+  ActiveWakeUp,
+  Request,
+  Release,
+  Repeat,
+  Disable,
+  Enable,
+  Confirm,
+  FilterOn,
 }
 use Rattle.channel.specs.Decision.{ruleAt, table}
 use Rattle.channel.proofs.Table.{run-at}
