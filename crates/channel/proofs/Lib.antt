@@ -1,2 +1,4 @@
 pub mod Table
 pub mod States
+pub mod Kept
+pub mod Numbers

@@ -53,16 +53,13 @@ use Rattle.channel.specs.Refusals.{refusal, isDone, judged}
 abbrev pub timersSound : Config → Ticks → List ℕ → Bool
 timersSound c t timers = allWithin (take (c .pn .length) (c .pn .mask)) (t .reset) timers
 
-unfoldable pub ownSound : Own → Bool
-ownSound o =
-    configured (o .config) (o .ticks)
-    && modeSound (o .ticks) (o .mode)
-    && trafficSound (setupOf (o .config) (o .ticks)) (o .mode .state) (o .traffic)
-    && passiveSound (o .config .passive) (o .mode) (o .traffic)
+unfoldable pub scalarsSound : Config → Ticks → Mode → Traffic → Bool
+scalarsSound c t m x =
+    configured c t && modeSound t m && trafficSound (setupOf c t) (m .state) x && passiveSound (c .passive) m x
 
 unfoldable pub sound : Channel → Bool
 sound ch =
-    ownSound (ch .own)
+    scalarsSound (ch .own .config) (ch .own .ticks) (ch .own .mode) (ch .own .traffic)
     && (timersSound (ch .own .config) (ch .own .ticks) (ch .own .era) && timersSound (ch .own .config) (ch .own .ticks) (ch .eira))
 
 -- ---- the freshly initialised channel
@@ -122,3 +119,159 @@ againFor c (setUserData bytes) = false
 againFor c (setPnRequests bytes) = false
 againFor c status = false
 againFor c (mainFunction taken room) = false
+
+abbrev pub isTick : Call → Bool
+isTick networkRequest = false
+isTick networkRelease = false
+isTick passiveStartUp = false
+isTick repeatMessageRequest = false
+isTick disableCommunication = false
+isTick enableCommunication = false
+isTick (txConfirmation good) = false
+isTick (rxIndication pdu) = false
+isTick confirmPnAvailability = false
+isTick (setUserData bytes) = false
+isTick (setPnRequests bytes) = false
+isTick status = false
+isTick (mainFunction taken room) = true
+
+-- the driver takes a frame
+abbrev pub isTaken : Call → Bool
+isTaken networkRequest = false
+isTaken networkRelease = false
+isTaken passiveStartUp = false
+isTaken repeatMessageRequest = false
+isTaken disableCommunication = false
+isTaken enableCommunication = false
+isTaken (txConfirmation good) = false
+isTaken (rxIndication pdu) = false
+isTaken confirmPnAvailability = false
+isTaken (setUserData bytes) = false
+isTaken (setPnRequests bytes) = false
+isTaken status = false
+isTaken (mainFunction taken room) = taken
+
+-- the mode: of the configuration, its ticks and the mode before, it sees nothing else of the channel
+unfoldable pub modeAfter : Config → Ticks → Mode → Call → Mode
+modeAfter c t m x = modeBy (ruleFor c m x) (againFor c x) t m
+
+-- the traffic: by the rule, and in a tick then step f
+unfoldable pub trafficMoved : Own → Call → Traffic
+trafficMoved o x =
+    trafficBy (ruleFor (o .config) (o .mode) x) (againFor (o .config) x) (setupOf (o .config) (o .ticks)) (o .mode)
+    (modeAfter (o .config) (o .ticks) (o .mode) x)
+    (o .traffic)
+
+unfoldable pub trafficAfter : Own → Call → Traffic
+trafficAfter o x =
+    cond (isTick x)
+    (framing (setupOf (o .config) (o .ticks)) (modeAfter (o .config) (o .ticks) (o .mode) x) (isTaken x) (trafficMoved o x))
+    (trafficMoved o x)
+
+-- a frame is sent
+unfoldable pub sends : Own → Call → Bool
+sends o x =
+    isTaken x && isDue (setupOf (o .config) (o .ticks)) (modeAfter (o .config) (o .ticks) (o .mode) x) (trafficMoved o x)
+
+-- the bytes that a call sets
+unfoldable pub userAfter : List ℕ → Call → List ℕ
+userAfter user networkRequest = user
+userAfter user networkRelease = user
+userAfter user passiveStartUp = user
+userAfter user repeatMessageRequest = user
+userAfter user disableCommunication = user
+userAfter user enableCommunication = user
+userAfter user (txConfirmation good) = user
+userAfter user (rxIndication pdu) = user
+userAfter user confirmPnAvailability = user
+userAfter user (setUserData bytes) = sets user 0 bytes
+userAfter user (setPnRequests bytes) = user
+userAfter user status = user
+userAfter user (mainFunction taken room) = user
+
+unfoldable pub requestsAfter : List ℕ → Call → List ℕ
+requestsAfter requests networkRequest = requests
+requestsAfter requests networkRelease = requests
+requestsAfter requests passiveStartUp = requests
+requestsAfter requests repeatMessageRequest = requests
+requestsAfter requests disableCommunication = requests
+requestsAfter requests enableCommunication = requests
+requestsAfter requests (txConfirmation good) = requests
+requestsAfter requests (rxIndication pdu) = requests
+requestsAfter requests confirmPnAvailability = requests
+requestsAfter requests (setUserData bytes) = requests
+requestsAfter requests (setPnRequests bytes) = sets requests 0 bytes
+requestsAfter requests status = requests
+requestsAfter requests (mainFunction taken room) = requests
+
+-- what an accepted PDU loads, in every state
+unfoldable pub heardBy : Own → List ℕ → Call → List ℕ
+heardBy o timers networkRequest = timers
+heardBy o timers networkRelease = timers
+heardBy o timers passiveStartUp = timers
+heardBy o timers repeatMessageRequest = timers
+heardBy o timers disableCommunication = timers
+heardBy o timers enableCommunication = timers
+heardBy o timers (txConfirmation good) = timers
+heardBy o timers (rxIndication pdu) =
+    cond (accepted (o .config) (o .mode .filter) pdu) (loadedBy (o .config) (o .ticks .reset) pdu timers) timers
+heardBy o timers confirmPnAvailability = timers
+heardBy o timers (setUserData bytes) = timers
+heardBy o timers (setPnRequests bytes) = timers
+heardBy o timers status = timers
+heardBy o timers (mainFunction taken room) = timers
+
+-- e: in a tick every running timer counts down
+unfoldable pub eraAfter : Own → Call → List ℕ
+eraAfter o x = cond (isTick x) (countedDown (o .era)) (heardBy o (o .era) x)
+
+-- f: a sent frame loads EIRA with its PN bits in the mask
+unfoldable pub eiraSent : Own → List ℕ → List ℕ
+eiraSent o timers = loadedWhere (take (o .config .pn .length) (o .requests)) (o .config .pn .mask) (o .ticks .reset) timers
+
+unfoldable pub eiraAfter : Own → List ℕ → Call → List ℕ
+eiraAfter o timers x =
+    cond (isTick x) (cond (sends o x) (eiraSent o (countedDown timers)) (countedDown timers)) (heardBy o timers x)
+
+unfoldable pub ownAfter : Own → Call → Own
+ownAfter o x =
+    record {
+      config = o .config;
+      ticks = o .ticks;
+      mode = modeAfter (o .config) (o .ticks) (o .mode) x;
+      traffic = trafficAfter o x;
+      user = userAfter (o .user) x;
+      requests = requestsAfter (o .requests) x;
+      era = eraAfter o x
+    }
+
+-- EI and ER close a call after which EIRA or ERA differs
+unfoldable pub notesAfter : Channel → Call → Notes
+notesAfter ch x =
+    notes
+    (firstBy (ruleFor (ch .own .config) (ch .own .mode) x) (ch .own .mode)
+    (modeAfter (ch .own .config) (ch .own .ticks) (ch .own .mode) x))
+    (secondBy (ruleFor (ch .own .config) (ch .own .mode) x) (ch .own .mode) (ch .own .traffic))
+    (vectorsDiffer (ch .eira) (eiraAfter (ch .own) (ch .eira) x))
+    (vectorsDiffer (ch .own .era) (eraAfter (ch .own) x))
+
+unfoldable pub carriedOut : Channel → Call → Reply
+carriedOut ch x =
+    record {
+      channel = record { own = ownAfter (ch .own) x; eira = eiraAfter (ch .own) (ch .eira) x };
+      answer = Done;
+      notes = notesAfter ch x;
+      sent = sends (ch .own) x
+    }
+
+-- ---- a call
+
+-- refused: the same channel, no note, no frame
+unfoldable pub refused : Channel → Answer → Reply
+refused ch a = record { channel = ch; answer = a; notes = notes Nothing Nothing false false; sent = false }
+
+unfoldable pub answerOf : Channel → Call → Answer
+answerOf ch x = judged (sound ch) (refusal (ch .own .config) (ch .own .mode .state) x)
+
+unfoldable pub replied : Channel → Call → Reply
+replied ch x = cond (isDone (answerOf ch x)) (carriedOut ch x) (refused ch (answerOf ch x))

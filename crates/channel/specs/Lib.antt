@@ -7,3 +7,4 @@ pub mod Sound
 pub mod Heard
 pub mod Refusals
 pub mod Channel
+pub mod Moved

@@ -35,13 +35,21 @@ configured c t = eqb (firstBroken c) 0 && sameTicks t (ticksFor c)
 abbrev pub runs : Bool → ℕ → ℕ → Bool
 runs running top n = cond running (leb 1 n && leb n top) (eqb n 0)
 
--- NM, wait and repeat timer; requested in Normal and not in Ready, Prepare and Bus-Sleep; disabled only in Network Mode
+-- a flag that is set only where a test holds
+abbrev pub only : Bool → Bool → Bool
+only flag test = not flag || test
+
+-- requested in Normal, and not in Ready, Prepare and Bus-Sleep
+abbrev pub requestFits : Bool → State → Bool
+requestFits requested s = cond requested (isRepeat s || isNormal s) (not (isNormal s))
+
+-- NM, wait and repeat timer; the request; disabled only in Network Mode
 unfoldable pub modeSound : Ticks → Mode → Bool
 modeSound t m =
     runs (inNetwork (m .state)) (t .timeout) (m .nm)
     && runs (isPrepare (m .state)) (t .wait) (m .wait)
     && runs (isRepeat (m .state)) (t .repeat) (m .repeat)
-    && cond (m .requested) (isRepeat (m .state) || isNormal (m .state)) (not (isNormal (m .state)))
+    && requestFits (m .requested) (m .state)
     && (m .sending || inNetwork (m .state))
 
 abbrev pub larger : ℕ → ℕ → ℕ
@@ -53,12 +61,12 @@ trafficSound s m x =
     runs (transmits m && not (s .passive)) (larger (s .ticks .cycle) (s .ticks .fast)) (x .message)
     && leb (x .fast) (cond (isRepeat m) (s .immediate) 0)
     && runs (isNormal m && ltb 0 (s .ticks .remote) && not (x .indicated)) (s .ticks .remote) (x .remote)
-    && (not (x .repeating) || isRepeat m)
-    && (not (x .waking) || inNetwork m)
-    && (not (x .indicated) || settled m && ltb 0 (s .ticks .remote))
+    && only (x .repeating) (isRepeat m)
+    && only (x .waking) (inNetwork m)
+    && only (x .indicated) (settled m && ltb 0 (s .ticks .remote))
 
 -- a passive channel is never requested, disabled, indicated or in Normal, and holds neither bit
 unfoldable pub passiveSound : Bool → Mode → Traffic → Bool
 passiveSound passive m x =
-    not passive
-    || not (m .requested) && m .sending && not (x .indicated) && not (isNormal (m .state)) && not (x .repeating) && not (x .waking)
+    only passive
+    (not (m .requested) && m .sending && not (x .indicated) && not (isNormal (m .state)) && not (x .repeating) && not (x .waking))

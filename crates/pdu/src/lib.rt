@@ -41,7 +41,7 @@ fn put_byte(frame: &mut [u8], position: u64, b: u8)
 }
 
 // The bytes of `src` over the first of `dst`, as many as there is room for.
-fn copy(src: &[u8], dst: &mut [u8])
+pub fn copy(src: &[u8], dst: &mut [u8])
     ensures { λ r. ⌜ now (dst .exit) ≡ sets (now (dst .entry)) 0 (now (src .entry)) ⌝ }
 {
     let mut i: usize = 0;
@@ -69,8 +69,21 @@ fn take_part(src: &[u8], at: usize, dst: &mut [u8])
     }
 }
 
+// The part of `n` bytes from `at` on, or as many of them as there are.
+pub fn part<'a>(bytes: &'a [u8], at: usize, n: usize) -> &'a [u8]
+    ensures { λ r. ⌜ now r ≡ take n (drop at (now (bytes .entry))) ⌝ }
+{
+    if at <= bytes.len() {
+        if n <= bytes.len() - at {
+            return &bytes[at..at + n];
+        }
+        return &bytes[at..];
+    }
+    &bytes[..0]
+}
+
 // A header field's byte; 0 where it is off.
-fn byte_at(pdu: &[u8], position: u64) -> u8
+pub fn byte_at(pdu: &[u8], position: u64) -> u8
     ensures { λ r. ⌜ r ≡ byteAt position (now (pdu .entry)) ⌝ }
 {
     if position == config::OFF {

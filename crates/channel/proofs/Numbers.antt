@@ -1,0 +1,82 @@
+-- The calls that change no vector and no byte go by their number. Assumes nothing.
+use mathlib.Core.Path.{_≡_, refl}
+use mathlib.Core.Bool.{Bool, true, false, cond, xor}
+use mathlib.Core.List.{List}
+use Prim.Native.Nat.{ℕ, zero, suc}
+use lib.Dec.{eqb}
+use lib.ListN.{length, getD}
+use Rattle.bits.specs.Lists.{anyBelow}
+use Rattle.bits.specs.Timers.{vectorsDiffer}
+use Rattle.channel.specs.declared.state.Channel.{Channel}
+use Rattle.channel.specs.Decision.{
+  Call, networkRequest, networkRelease, passiveStartUp, repeatMessageRequest, disableCommunication, enableCommunication, txConfirmation,
+  rxIndication, confirmPnAvailability, setUserData, setPnRequests, status, mainFunction, callNumber
+}
+use Rattle.channel.specs.Refusals.{refusal, refusedPassive, refusedPnOff}
+use Rattle.channel.specs.Channel.{
+  againFor, answerOf, carriedOut, eiraAfter, eraAfter, heardBy, isTaken, isTick, modeAfter, notesAfter, ownAfter, replied, requestsAfter,
+  ruleFor, sends, trafficAfter, trafficMoved, userAfter
+}
+use Rattle.channel.specs.Moved.{finished, movedBy, plainly}
+
+xor-self : (b : Bool) → xor b b ≡ false
+unfolding xor
+xor-self true = refl
+xor-self false = refl
+
+none-below : (p : ℕ → Bool) (n : ℕ) → ((k : ℕ) → p k ≡ false) → anyBelow p n ≡ false
+none-below p zero h = refl
+none-below p (suc n) h = rw (none-below p n h, h n)
+
+-- a vector does not differ from itself
+pub differs-not : (ts : List ℕ) → vectorsDiffer ts ts ≡ false
+unfolding vectorsDiffer
+differs-not ts = none-below (λ k. xor (eqb (getD ts k 0) 0) (eqb (getD ts k 0) 0)) (length ts) (λ k. xor-self (eqb (getD ts k 0) 0))
+
+-- the calls that change no vector and no byte; a bad confirmation is not heeded
+abbrev pub Plain : Call → Type 0
+Plain networkRequest = Unit {0}
+Plain networkRelease = Unit {0}
+Plain passiveStartUp = Unit {0}
+Plain repeatMessageRequest = Unit {0}
+Plain disableCommunication = Unit {0}
+Plain enableCommunication = Unit {0}
+Plain (txConfirmation good) = Unit {0}
+Plain (rxIndication pdu) = ⊥
+Plain confirmPnAvailability = Unit {0}
+Plain (setUserData bytes) = ⊥
+Plain (setPnRequests bytes) = ⊥
+Plain status = ⊥
+Plain (mainFunction taken room) = ⊥
+
+abbrev pub heeded : Call → Bool
+heeded networkRequest = true
+heeded networkRelease = true
+heeded passiveStartUp = true
+heeded repeatMessageRequest = true
+heeded disableCommunication = true
+heeded enableCommunication = true
+heeded (txConfirmation good) = good
+heeded (rxIndication pdu) = true
+heeded confirmPnAvailability = true
+heeded (setUserData bytes) = true
+heeded (setPnRequests bytes) = true
+heeded status = true
+heeded (mainFunction taken room) = true
+
+pub by-number : (ch : Channel) (x : Call) → Plain x
+    → replied ch x ≡ plainly ch (callNumber x) (refusedPassive (ch .own .config) x) (refusedPnOff (ch .own .config) x) (heeded x)
+unfolding replied answerOf refusal carriedOut ownAfter notesAfter modeAfter trafficAfter trafficMoved userAfter requestsAfter eraAfter eiraAfter heardBy sends ruleFor againFor plainly finished movedBy
+by-number ch networkRequest p = rw (differs-not (ch .eira), differs-not (ch .own .era))
+by-number ch networkRelease p = rw (differs-not (ch .eira), differs-not (ch .own .era))
+by-number ch passiveStartUp p = rw (differs-not (ch .eira), differs-not (ch .own .era))
+by-number ch repeatMessageRequest p = rw (differs-not (ch .eira), differs-not (ch .own .era))
+by-number ch disableCommunication p = rw (differs-not (ch .eira), differs-not (ch .own .era))
+by-number ch enableCommunication p = rw (differs-not (ch .eira), differs-not (ch .own .era))
+by-number ch (txConfirmation good) p = rw (differs-not (ch .eira), differs-not (ch .own .era))
+by-number ch (rxIndication pdu) p = absurd p
+by-number ch confirmPnAvailability p = rw (differs-not (ch .eira), differs-not (ch .own .era))
+by-number ch (setUserData bytes) p = absurd p
+by-number ch (setPnRequests bytes) p = absurd p
+by-number ch status p = absurd p
+by-number ch (mainFunction taken room) p = absurd p

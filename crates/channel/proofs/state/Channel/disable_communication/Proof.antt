@@ -1,0 +1,12 @@
+-- `channel::state::Channel::disable_communication` meets its contract. Assumes nothing.
+use mathlib.Core.Path.{sym, _∙_}
+use Rattle.channel.specs.Decision.{disableCommunication}
+use Rattle.channel.proofs.Numbers.{by-number}
+use Rattle.channel.proofs.state.Channel.disable_communication.Statement.{statement}
+use Rattle.channel.proofs.state.Channel.disable_communication.Tie as tie
+
+returns : tie.Need-returns
+returns c = c .plain .ensures ∙ sym (by-number (c .before .args .self) disableCommunication tt)
+
+pub disable-communication-spec : {M : Type 1} → statement M
+disable-communication-spec = tie.close (tie.spec (λ c κs. tt) returns)
