@@ -27,14 +27,16 @@ same-ticks t u e =
     let e4 = and-left (a && b && c && d) f e5 in
     let e3 = and-left (a && b && c) d e4 in
     let e2 = and-left (a && b) c e3 in
-    rw (eqb-true (t .timeout) (u .timeout) (and-left a b e2),
-    eqb-true (t .wait) (u .wait) (and-right a b e2),
-    eqb-true (t .repeat) (u .repeat) (and-right (a && b) c e3),
-    eqb-true (t .cycle) (u .cycle) (and-right (a && b && c) d e4),
-    eqb-true (t .offset) (u .offset) (and-right (a && b && c && d) f e5),
-    eqb-true (t .fast) (u .fast) (and-right (a && b && c && d && f) g e6),
-    eqb-true (t .remote) (u .remote) (and-right (a && b && c && d && f && g) h e7),
-    eqb-true (t .reset) (u .reset) (and-right (a && b && c && d && f && g && h) i e))
+    rw (
+      eqb-true (t .timeout) (u .timeout) (and-left a b e2),
+      eqb-true (t .wait) (u .wait) (and-right a b e2),
+      eqb-true (t .repeat) (u .repeat) (and-right (a && b) c e3),
+      eqb-true (t .cycle) (u .cycle) (and-right (a && b && c) d e4),
+      eqb-true (t .offset) (u .offset) (and-right (a && b && c && d) f e5),
+      eqb-true (t .fast) (u .fast) (and-right (a && b && c && d && f) g e6),
+      eqb-true (t .remote) (u .remote) (and-right (a && b && c && d && f && g) h e7),
+      eqb-true (t .reset) (u .reset) (and-right (a && b && c && d && f && g && h) i e),
+    )
 
 pub judged-alike : (c : Config) (t : Ticks) → (eqb (firstBrokenBy c t) 0 && sameTicks t (ticksFor c)) ≡ configured c t
 unfolding configured firstBroken

@@ -2,3 +2,4 @@ pub mod Table
 pub mod States
 pub mod Kept
 pub mod Numbers
+pub mod Carried

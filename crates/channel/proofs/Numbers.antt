@@ -9,13 +9,42 @@ use Rattle.bits.specs.Lists.{anyBelow}
 use Rattle.bits.specs.Timers.{vectorsDiffer}
 use Rattle.channel.specs.declared.state.Channel.{Channel}
 use Rattle.channel.specs.Decision.{
-  Call, networkRequest, networkRelease, passiveStartUp, repeatMessageRequest, disableCommunication, enableCommunication, txConfirmation,
-  rxIndication, confirmPnAvailability, setUserData, setPnRequests, status, mainFunction, callNumber
+  Call,
+  networkRequest,
+  networkRelease,
+  passiveStartUp,
+  repeatMessageRequest,
+  disableCommunication,
+  enableCommunication,
+  txConfirmation,
+  rxIndication,
+  confirmPnAvailability,
+  setUserData,
+  setPnRequests,
+  status,
+  mainFunction,
+  callNumber,
 }
 use Rattle.channel.specs.Refusals.{refusal, refusedPassive, refusedPnOff}
 use Rattle.channel.specs.Channel.{
-  againFor, answerOf, carriedOut, eiraAfter, eraAfter, heardBy, isTaken, isTick, modeAfter, notesAfter, ownAfter, replied, requestsAfter,
-  ruleFor, sends, trafficAfter, trafficMoved, userAfter
+  againFor,
+  answerOf,
+  carriedOut,
+  eiraAfter,
+  eraAfter,
+  heardBy,
+  isTaken,
+  isTick,
+  modeAfter,
+  notesAfter,
+  ownAfter,
+  replied,
+  requestsAfter,
+  ruleFor,
+  sends,
+  trafficAfter,
+  trafficMoved,
+  userAfter,
 }
 use Rattle.channel.specs.Moved.{finished, movedBy, plainly}
 

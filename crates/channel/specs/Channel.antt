@@ -7,7 +7,7 @@ use lib.ListN.{length, take, replicate}
 use lib.Seq.{sets}
 use Rattle.answers.specs.declared.Answer.{Answer}
 use Rattle.answers.specs.declared.Answer.the-variants.{Done, Rule}
-use Rattle.bits.specs.Timers.{allWithin, countedDown, loadedWhere, vectorsDiffer}
+use Rattle.bits.specs.Timers.{allWithin, countedDown, vectorsDiffer}
 use Rattle.config.specs.declared.Config.{Config}
 use Rattle.config.specs.declared.Ticks.{Ticks}
 use Rattle.config.specs.Ranges.{userLengthOf}
@@ -44,7 +44,7 @@ use Rattle.channel.specs.Mode.{mode, modeBy}
 use Rattle.channel.specs.Traffic.{traffic, trafficBy, setupOf, framing, isDue}
 use Rattle.channel.specs.Notes.{firstBy, secondBy, notes}
 use Rattle.channel.specs.Sound.{configured, modeSound, trafficSound, passiveSound}
-use Rattle.channel.specs.Heard.{accepted, asksRepeat, loadedBy}
+use Rattle.channel.specs.Heard.{accepted, asksRepeat, framed, loadedBy, sentLoaded}
 use Rattle.channel.specs.Refusals.{refusal, isDone, judged}
 
 -- ---- sound
@@ -225,13 +225,12 @@ heardBy o timers (mainFunction taken room) = timers
 unfoldable pub eraAfter : Own → Call → List ℕ
 eraAfter o x = cond (isTick x) (countedDown (o .era)) (heardBy o (o .era) x)
 
--- f: a sent frame loads EIRA with its PN bits in the mask
-unfoldable pub eiraSent : Own → List ℕ → List ℕ
-eiraSent o timers = loadedWhere (take (o .config .pn .length) (o .requests)) (o .config .pn .mask) (o .ticks .reset) timers
-
+-- e and f: EIRA counts down too, and a sent frame loads it
 unfoldable pub eiraAfter : Own → List ℕ → Call → List ℕ
 eiraAfter o timers x =
-    cond (isTick x) (cond (sends o x) (eiraSent o (countedDown timers)) (countedDown timers)) (heardBy o timers x)
+    cond (isTick x)
+    (cond (sends o x) (sentLoaded (o .config) (o .ticks .reset) (o .requests) timers) (countedDown timers))
+    (heardBy o timers x)
 
 unfoldable pub ownAfter : Own → Call → Own
 ownAfter o x =
@@ -242,7 +241,7 @@ ownAfter o x =
       traffic = trafficAfter o x;
       user = userAfter (o .user) x;
       requests = requestsAfter (o .requests) x;
-      era = eraAfter o x
+      era = eraAfter o x;
     }
 
 -- EI and ER close a call after which EIRA or ERA differs
@@ -261,7 +260,7 @@ carriedOut ch x =
       channel = record { own = ownAfter (ch .own) x; eira = eiraAfter (ch .own) (ch .eira) x };
       answer = Done;
       notes = notesAfter ch x;
-      sent = sends (ch .own) x
+      sent = sends (ch .own) x;
     }
 
 -- ---- a call
@@ -275,3 +274,21 @@ answerOf ch x = judged (sound ch) (refusal (ch .own .config) (ch .own .mode .sta
 
 unfoldable pub replied : Channel → Call → Reply
 replied ch x = cond (isDone (answerOf ch x)) (carriedOut ch x) (refused ch (answerOf ch x))
+
+-- ---- the tick with its frame
+
+-- a frame that is sent fills the first bytes of the lent one; otherwise every byte stays
+unfoldable pub frameAfter : Channel → Call → List ℕ → List ℕ
+frameAfter ch x frame =
+    cond (replied ch x .sent) (framed (ch .own .config) (trafficMoved (ch .own) x) (ch .own .requests) (ch .own .user) frame) frame
+
+pub record Ticked : Type 0 where
+  pub reply : Reply
+  pub frame : List ℕ
+
+abbrev pub ticked : Reply → List ℕ → Ticked
+ticked r frame = record { reply = r; frame = frame }
+
+unfoldable pub tickedBy : Channel → Bool → List ℕ → Ticked
+tickedBy ch taken frame =
+    ticked (replied ch (mainFunction taken (length frame))) (frameAfter ch (mainFunction taken (length frame)) frame)

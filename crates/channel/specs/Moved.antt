@@ -4,6 +4,7 @@ use mathlib.Core.Bool.{Bool, false, cond}
 use Rattle.answers.specs.declared.Answer.{Answer}
 use Rattle.answers.specs.declared.Answer.the-variants.{Done}
 use Rattle.channel.specs.declared.state.Channel.{Channel}
+use Rattle.channel.specs.declared.state.Note.{Note}
 use Rattle.channel.specs.declared.state.Reply.{Reply}
 use Rattle.channel.specs.declared.decision.Rule.{Rule}
 use Rattle.channel.specs.Mode.{modeBy}
@@ -19,29 +20,29 @@ unfoldable pub movedBy : Channel → Rule → Bool → Bool → Bool → Reply
 movedBy ch rule again ei er =
     record {
       channel =
-        record {
-          own =
-            record {
-              config = ch .own .config;
-              ticks = ch .own .ticks;
-              mode = modeBy rule again (ch .own .ticks) (ch .own .mode);
-              traffic =
-                trafficBy rule again (setupOf (ch .own .config) (ch .own .ticks)) (ch .own .mode)
-                (modeBy rule again (ch .own .ticks) (ch .own .mode))
-                (ch .own .traffic);
-              user = ch .own .user;
-              requests = ch .own .requests;
-              era = ch .own .era
-            };
-          eira = ch .eira
-        };
+          record {
+            own =
+                record {
+                  config = ch .own .config;
+                  ticks = ch .own .ticks;
+                  mode = modeBy rule again (ch .own .ticks) (ch .own .mode);
+                  traffic =
+                      trafficBy rule again (setupOf (ch .own .config) (ch .own .ticks)) (ch .own .mode)
+                      (modeBy rule again (ch .own .ticks) (ch .own .mode))
+                      (ch .own .traffic);
+                  user = ch .own .user;
+                  requests = ch .own .requests;
+                  era = ch .own .era;
+                };
+            eira = ch .eira;
+          };
       answer = Done;
       notes =
-        notes (firstBy rule (ch .own .mode) (modeBy rule again (ch .own .ticks) (ch .own .mode)))
-        (secondBy rule (ch .own .mode) (ch .own .traffic))
-        ei
-        er;
-      sent = false
+          notes (firstBy rule (ch .own .mode) (modeBy rule again (ch .own .ticks) (ch .own .mode)))
+          (secondBy rule (ch .own .mode) (ch .own .traffic))
+          ei
+          er;
+      sent = false;
     }
 
 -- answered: moved where nothing is refused
@@ -54,3 +55,7 @@ plainly ch call passive off heeded =
     finished ch (judged (sound ch) (firstOf passive off (isNotHere (ruleOf (ch .own .mode .state) call)) false))
     (cond heeded (ruleOf (ch .own .mode .state) call) Keep)
     false
+
+-- the reply of a tick
+unfoldable pub told : Channel → Note → Note → Bool → Bool → Bool → Reply
+told ch first second ei er sent = record { channel = ch; answer = Done; notes = notes first second ei er; sent = sent }

@@ -6,21 +6,31 @@
 use answers::Answer;
 use decision::Rule;
 use state::Channel;
-use state::Notes;
 use state::Note;
+use state::Notes;
 use state::Reply;
 ghost use mathlib.Core.Path.{_≡_};
 ghost use mathlib.Core.Bool.{false, true, cond};
 ghost use Rattle.channel.specs.declared.decision.Rule.the-variants.{Keep};
 ghost use Rattle.channel.specs.Decision.{
-    confirmPnAvailability, disableCommunication, enableCommunication, networkRelease, networkRequest, passiveStartUp,
-    repeatMessageRequest, rxIndication, setPnRequests, setUserData, txConfirmation,
+  confirmPnAvailability,
+  disableCommunication,
+  enableCommunication,
+  networkRelease,
+  networkRequest,
+  passiveStartUp,
+  repeatMessageRequest,
+  rxIndication,
+  setPnRequests,
+  setUserData,
+  txConfirmation,
 };
 ghost use Rattle.channel.specs.Refusals.{firstOf, isDone, judged};
-ghost use Rattle.channel.specs.Channel.{refused, replied};
-ghost use Rattle.channel.specs.Moved.{finished, movedBy, plainly};
+ghost use Rattle.channel.specs.Channel.{refused, replied, ticked, tickedBy};
+ghost use Rattle.channel.specs.Moved.{finished, movedBy, plainly, told};
 
 pub mod decision;
+pub mod heard;
 pub mod mode;
 pub mod notes;
 pub mod sound;
@@ -111,6 +121,23 @@ fn moved(mut ch: Channel, rule: Rule, again: bool, ei: bool, er: bool) -> Reply
     }
 }
 
+// The reply of a tick.
+fn told(ch: Channel, first: Note, second: Note, ei: bool, er: bool, sent: bool) -> Reply
+    ensures { λ r. ⌜ r ≡ told ch first second ei er sent ⌝ }
+{
+    Reply {
+        channel: ch,
+        answer: Answer::Done,
+        notes: Notes {
+            first: first,
+            second: second,
+            eira: ei,
+            era: er,
+        },
+        sent: sent,
+    }
+}
+
 // A call that changes no vector and no byte.
 fn finish(ch: Channel, a: Answer, rule: Rule, again: bool) -> Reply
     ensures { λ r. ⌜ r ≡ finished ch a rule again ⌝ }
@@ -134,7 +161,14 @@ fn plain(ch: Channel, call: u8, passive: bool, off: bool, heeded: bool) -> Reply
 {
     let m = ch.own.mode;
     let state = m.state;
-    let ok = sound::sound(ch.own.config, ch.own.ticks, m, ch.own.traffic, &ch.own.era, &ch.eira);
+    let ok = sound::sound(
+        ch.own.config,
+        ch.own.ticks,
+        m,
+        ch.own.traffic,
+        &ch.own.era,
+        &ch.eira,
+    );
     let rule = decision::rule_of(state, call);
     let a = judge(ok, passive, off, decision::is_not_here(rule), false);
     finish(ch, a, heed(heeded, rule), false)
@@ -147,14 +181,26 @@ impl Channel {
     pub fn network_request(self) -> Reply
         ensures { λ r. ⌜ r ≡ replied self networkRequest ⌝ }
     {
-        plain(self, decision::NETWORK_REQUEST, self.own.config.passive, false, true)
+        plain(
+            self,
+            decision::NETWORK_REQUEST,
+            self.own.config.passive,
+            false,
+            true,
+        )
     }
 
     // The host needs the network no longer.
     pub fn network_release(self) -> Reply
         ensures { λ r. ⌜ r ≡ replied self networkRelease ⌝ }
     {
-        plain(self, decision::NETWORK_RELEASE, self.own.config.passive, false, true)
+        plain(
+            self,
+            decision::NETWORK_RELEASE,
+            self.own.config.passive,
+            false,
+            true,
+        )
     }
 
     // The network was started by another node.
@@ -168,26 +214,50 @@ impl Channel {
     pub fn repeat_message_request(self) -> Reply
         ensures { λ r. ⌜ r ≡ replied self repeatMessageRequest ⌝ }
     {
-        plain(self, decision::REPEAT_MESSAGE_REQUEST, self.own.config.passive, false, true)
+        plain(
+            self,
+            decision::REPEAT_MESSAGE_REQUEST,
+            self.own.config.passive,
+            false,
+            true,
+        )
     }
 
     pub fn disable_communication(self) -> Reply
         ensures { λ r. ⌜ r ≡ replied self disableCommunication ⌝ }
     {
-        plain(self, decision::DISABLE_COMMUNICATION, self.own.config.passive, false, true)
+        plain(
+            self,
+            decision::DISABLE_COMMUNICATION,
+            self.own.config.passive,
+            false,
+            true,
+        )
     }
 
     pub fn enable_communication(self) -> Reply
         ensures { λ r. ⌜ r ≡ replied self enableCommunication ⌝ }
     {
-        plain(self, decision::ENABLE_COMMUNICATION, self.own.config.passive, false, true)
+        plain(
+            self,
+            decision::ENABLE_COMMUNICATION,
+            self.own.config.passive,
+            false,
+            true,
+        )
     }
 
     // The driver's word on a frame that was sent: good or bad.
     pub fn tx_confirmation(self, good: bool) -> Reply
         ensures { λ r. ⌜ r ≡ replied self (txConfirmation good) ⌝ }
     {
-        plain(self, decision::TX_CONFIRMATION, self.own.config.passive, false, good)
+        plain(
+            self,
+            decision::TX_CONFIRMATION,
+            self.own.config.passive,
+            false,
+            good,
+        )
     }
 
     // The partial-network filter is turned on.
@@ -196,5 +266,122 @@ impl Channel {
     {
         let off = choice::negation(self.own.config.pn.on);
         plain(self, decision::CONFIRM_PN_AVAILABILITY, false, off, true)
+    }
+
+    // A PDU was received.
+    pub fn rx_indication(mut self, pdu: &[u8]) -> Reply
+        ensures { λ r. ⌜ r ≡ replied self (rxIndication (now (pdu .entry))) ⌝ }
+    {
+        let c = self.own.config;
+        let t = self.own.ticks;
+        let m = self.own.mode;
+        let state = m.state;
+        let ok = sound::sound(c, t, m, self.own.traffic, &self.own.era, &self.eira);
+        let rule = decision::rule_of(state, decision::RX_INDICATION);
+        let size = choice::negation(pdu.len() as u64 == c.layout.length);
+        let a = judge(ok, false, false, decision::is_not_here(rule), size);
+        if is_done(a) {
+            if heard::accepted(c, m.filter, pdu) {
+                let again = heard::asks_repeat(c, pdu);
+                let er = heard::load_heard(c, t.reset, pdu, &mut self.own.era);
+                let ei = heard::load_heard(c, t.reset, pdu, &mut self.eira);
+                return moved(self, rule, again, ei, er);
+            }
+            return moved(self, Rule::Keep, false, false, false);
+        }
+        refused(self, a)
+    }
+
+    // The user data of the frames to come.
+    pub fn set_user_data(mut self, bytes: &[u8]) -> Reply
+        ensures { λ r. ⌜ r ≡ replied self (setUserData (now (bytes .entry))) ⌝ }
+    {
+        let c = self.own.config;
+        let m = self.own.mode;
+        let state = m.state;
+        let ok = sound::sound(
+            c,
+            self.own.ticks,
+            m,
+            self.own.traffic,
+            &self.own.era,
+            &self.eira,
+        );
+        let rule = decision::rule_of(state, decision::SET_USER_DATA);
+        let size = choice::negation(bytes.len() as u64 == config::user_length(c));
+        let a = judge(ok, c.passive, false, decision::is_not_here(rule), size);
+        if is_done(a) {
+            heard::store(bytes, &mut self.own.user);
+            return moved(self, rule, false, false, false);
+        }
+        refused(self, a)
+    }
+
+    // The PN requests of the frames to come.
+    pub fn set_pn_requests(mut self, bytes: &[u8]) -> Reply
+        ensures { λ r. ⌜ r ≡ replied self (setPnRequests (now (bytes .entry))) ⌝ }
+    {
+        let c = self.own.config;
+        let m = self.own.mode;
+        let state = m.state;
+        let ok = sound::sound(
+            c,
+            self.own.ticks,
+            m,
+            self.own.traffic,
+            &self.own.era,
+            &self.eira,
+        );
+        let rule = decision::rule_of(state, decision::SET_PN_REQUESTS);
+        let off = choice::negation(c.pn.on);
+        let size = choice::negation(bytes.len() as u64 == c.pn.length);
+        let a = judge(ok, c.passive, off, decision::is_not_here(rule), size);
+        if is_done(a) {
+            heard::store(bytes, &mut self.own.requests);
+            return moved(self, rule, false, false, false);
+        }
+        refused(self, a)
+    }
+
+    // The main function, a tick: `taken` says whether the driver takes a frame, which goes into the first bytes of the lent one.
+    pub fn main_function(mut self, taken: bool, frame: &mut [u8]) -> Reply
+        ensures { λ r. ⌜ ticked r (now (frame .exit)) ≡ tickedBy self taken (now (frame .entry)) ⌝ }
+    {
+        let c = self.own.config;
+        let t = self.own.ticks;
+        let m = self.own.mode;
+        let old = self.own.traffic;
+        let state = m.state;
+        let ok = sound::sound(c, t, m, old, &self.own.era, &self.eira);
+        let rule = decision::rule_of(state, decision::MAIN_FUNCTION);
+        let size = choice::negation(c.layout.length <= frame.len() as u64);
+        let a = judge(ok, false, false, decision::is_not_here(rule), size);
+        if is_done(a) {
+            // Steps a to d.
+            let after = mode::mode_by(rule, false, t, m);
+            let s = traffic::setup_of(c, t);
+            let x = traffic::traffic_by(rule, false, s, m, after, old);
+            let first = notes::first_by(rule, m, after);
+            let second = notes::second_by(rule, m, old);
+            // Step f without its frame, which no table and no byte of the channel depends on.
+            let sent = choice::both(taken, traffic::is_due(s, after, x));
+            let y = traffic::framing(s, after, taken, x);
+            let mut own = self.own;
+            own.mode = after;
+            own.traffic = y;
+            self.own = own;
+            // Step e, and what a sent frame loads.
+            let er = heard::count_down(&mut self.own.era);
+            if sent {
+                let requests = self.own.requests;
+                let user = self.own.user;
+                let ei = heard::load_sent(c, t.reset, &requests, &mut self.eira);
+                heard::send(c, x, &requests, &user, frame);
+                return told(self, first, second, ei, er, true);
+            }
+            let ei = heard::count_down(&mut self.eira);
+            return told(self, first, second, ei, er, false);
+        }
+        refused(self, a)
     }
 }

@@ -1,6 +1,4 @@
 // Sound states, condition by condition.
-use config::Config;
-use config::Ticks;
 use super::decision::in_network;
 use super::decision::is_normal;
 use super::decision::is_prepare;
@@ -12,6 +10,8 @@ use super::state::State;
 use super::state::Traffic;
 use super::traffic::Setup;
 use super::traffic::setup_of;
+use config::Config;
+use config::Ticks;
 ghost use mathlib.Core.Path.{_≡_};
 ghost use mathlib.Core.Bool.{_&&_};
 ghost use lib.ListN.{take};
@@ -96,11 +96,18 @@ fn traffic_sound(s: Setup, m: State, x: Traffic) -> bool
     );
     ok = choice::both(
         ok,
-        runs(choice::both(watched, choice::negation(x.indicated)), s.ticks.remote, x.remote),
+        runs(
+            choice::both(watched, choice::negation(x.indicated)),
+            s.ticks.remote,
+            x.remote,
+        ),
     );
     ok = choice::both(ok, only(x.repeating, is_repeat(m)));
     ok = choice::both(ok, only(x.waking, in_network(m)));
-    choice::both(ok, only(x.indicated, choice::both(settled(m), 0 < s.ticks.remote)))
+    choice::both(
+        ok,
+        only(x.indicated, choice::both(settled(m), 0 < s.ticks.remote)),
+    )
 }
 
 fn passive_sound(passive: bool, m: Mode, x: Traffic) -> bool
@@ -126,14 +133,27 @@ fn scalars_sound(c: Config, t: Ticks, m: Mode, x: Traffic) -> bool
 }
 
 // The PN timers of both tables, at their lengths.
-fn timers_sound<'a>(mask: &'a [u8; 8], n: usize, reset: u16, era: &'a [u16; 56], eira: &'a [u16; 56]) -> bool
+fn timers_sound<'a>(
+    mask: &'a [u8; 8],
+    n: usize,
+    reset: u16,
+    era: &'a [u16; 56],
+    eira: &'a [u16; 56],
+) -> bool
     ensures { λ r. ⌜ r ≡ (allWithin (take n (now (mask .entry))) reset (now (era .entry)) && allWithin (take n (now (mask .entry))) reset (now (eira .entry))) ⌝ }
 {
     bits::pair_within(mask, n, reset, era, eira)
 }
 
 // A channel's parts are sound; its tables are lent, not copied.
-pub fn sound<'a>(c: Config, t: Ticks, m: Mode, x: Traffic, era: &'a [u16; 56], eira: &'a [u16; 56]) -> bool
+pub fn sound<'a>(
+    c: Config,
+    t: Ticks,
+    m: Mode,
+    x: Traffic,
+    era: &'a [u16; 56],
+    eira: &'a [u16; 56],
+) -> bool
     ensures { λ r. ⌜ r ≡ (scalarsSound c t m x && (timersSound c t (now (era .entry)) && timersSound c t (now (eira .entry)))) ⌝ }
 {
     let mask = c.pn.mask;

@@ -17,8 +17,10 @@ returns-2 : tie.Need-returns-2
 returns-2 c =
     let a = c .before .before .before .args in
     let l = length-drop (a .at) (a .bytes .now) in
-    rw (take-all (length (a .bytes .now) - a .at) (drop (a .at) (a .bytes .now)) (omega arith),
-    take-all (a .n) (drop (a .at) (a .bytes .now)) (omega arith))
+    rw (
+      take-all (length (a .bytes .now) - a .at) (drop (a .at) (a .bytes .now)) (omega arith),
+      take-all (a .n) (drop (a .at) (a .bytes .now)) (omega arith),
+    )
 
 returns-3 : tie.Need-returns-3
 returns-3 c =
