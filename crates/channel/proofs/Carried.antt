@@ -6,30 +6,21 @@ use Prim.Native.Nat.{ℕ}
 use Rattle.answers.specs.declared.Answer.{Answer}
 use Rattle.channel.specs.declared.state.Channel.{Channel}
 use Rattle.channel.specs.declared.state.Reply.{Reply}
-use Rattle.bits.specs.Timers.{vectorsDiffer}
-use Rattle.channel.specs.Decision.{Call, rxIndication, ruleOf}
-use Rattle.channel.specs.Heard.{accepted, asksRepeat, loadedBy}
+use lib.ListN.{length}
+use Rattle.bits.specs.Timers.{countedDown, vectorsDiffer}
+use Rattle.channel.specs.Decision.{Call, rxIndication, mainFunction, ruleOf}
+use Rattle.channel.specs.Heard.{accepted, asksRepeat, framed, loadedBy, sentLoaded}
+use Rattle.channel.specs.declared.state.Mode.{Mode}
+use Rattle.channel.specs.declared.state.Traffic.{Traffic}
+use Rattle.channel.specs.Mode.{modeBy}
+use Rattle.channel.specs.Traffic.{framing, setupOf, trafficBy}
+use Rattle.channel.specs.Notes.{firstBy, secondBy}
 use Rattle.channel.specs.Refusals.{isDone}
 use Rattle.channel.specs.Channel.{
-  againFor,
-  answerOf,
-  carriedOut,
-  eiraAfter,
-  eraAfter,
-  heardBy,
-  modeAfter,
-  notesAfter,
-  ownAfter,
-  refused,
-  replied,
-  requestsAfter,
-  ruleFor,
-  sends,
-  trafficAfter,
-  trafficMoved,
-  userAfter,
+  againFor, answerOf, carriedOut, eiraAfter, eraAfter, frameAfter, heardBy, modeAfter, notesAfter, ownAfter, refused, replied, requestsAfter,
+  ruleFor, sends, ticked, tickedBy, trafficAfter, trafficMoved, userAfter
 }
-use Rattle.channel.specs.Moved.{movedBy}
+use Rattle.channel.specs.Moved.{movedBy, told}
 
 pub carried : (ch : Channel) (x : Call) {a : Answer} {r : Reply} {t : Bool} → a ≡ answerOf ch x → t ≡ isDone a → t ≡ true
     → r ≡ carriedOut ch x → r ≡ replied ch x
@@ -69,3 +60,66 @@ pub heard-carried : (ch : Channel) (pdu : List ℕ) → accepted (ch .own .confi
     (vectorsDiffer (ch .own .era) (loadedBy (ch .own .config) (ch .own .ticks .reset) pdu (ch .own .era)))
 unfolding carriedOut ownAfter notesAfter modeAfter trafficAfter trafficMoved userAfter requestsAfter eraAfter eiraAfter heardBy sends ruleFor againFor movedBy
 heard-carried ch pdu e = rw e
+
+-- the channel after a tick's steps a to d and f, before its tables
+abbrev pub steppedTo : Channel → Mode → Traffic → List ℕ → List ℕ → Channel
+steppedTo ch m x era eira =
+    record {
+      own =
+        record {
+          config = ch .own .config;
+          ticks = ch .own .ticks;
+          mode = m;
+          traffic = x;
+          user = ch .own .user;
+          requests = ch .own .requests;
+          era = era
+        };
+      eira = eira
+    }
+
+-- a tick that is carried out, by its steps: EIRA after it is the only thing that depends on whether a frame is sent
+pub tick-carried : (ch : Channel) (taken : Bool) (room : ℕ) (sent : Bool) (eira : List ℕ)
+    → sends (ch .own) (mainFunction taken room) ≡ sent
+    → eiraAfter (ch .own) (ch .eira) (mainFunction taken room) ≡ eira
+    → let s = setupOf (ch .own .config) (ch .own .ticks) in
+      let rule = ruleOf (ch .own .mode .state) 12 in
+      let after = modeBy rule false (ch .own .ticks) (ch .own .mode) in
+      let x = trafficBy rule false s (ch .own .mode) after (ch .own .traffic) in
+      carriedOut ch (mainFunction taken room)
+      ≡ told (steppedTo ch after (framing s after taken x) (countedDown (ch .own .era)) eira) (firstBy rule (ch .own .mode) after)
+        (secondBy rule (ch .own .mode) (ch .own .traffic))
+        (vectorsDiffer (ch .eira) eira)
+        (vectorsDiffer (ch .own .era) (countedDown (ch .own .era)))
+        sent
+unfolding carriedOut ownAfter notesAfter modeAfter trafficAfter trafficMoved userAfter requestsAfter eraAfter ruleFor againFor told
+tick-carried ch taken room sent eira e w = rw (e, w)
+
+pub eira-sent : (ch : Channel) (taken : Bool) (room : ℕ) → sends (ch .own) (mainFunction taken room) ≡ true
+    → eiraAfter (ch .own) (ch .eira) (mainFunction taken room)
+      ≡ sentLoaded (ch .own .config) (ch .own .ticks .reset) (ch .own .requests) (ch .eira)
+unfolding eiraAfter
+eira-sent ch taken room e = rw e
+
+pub eira-unsent : (ch : Channel) (taken : Bool) (room : ℕ) → sends (ch .own) (mainFunction taken room) ≡ false
+    → eiraAfter (ch .own) (ch .eira) (mainFunction taken room) ≡ countedDown (ch .eira)
+unfolding eiraAfter
+eira-unsent ch taken room e = rw e
+
+module _ (ch : Channel) (taken : Bool) (frame : List ℕ) where
+  abbrev x : Call
+  x = mainFunction taken (length frame)
+
+  pub tick-sent : isDone (answerOf ch x) ≡ true → sends (ch .own) x ≡ true
+      → ticked (carriedOut ch x) (framed (ch .own .config) (trafficMoved (ch .own) x) (ch .own .requests) (ch .own .user) frame)
+        ≡ tickedBy ch taken frame
+  unfolding tickedBy frameAfter replied carriedOut
+  tick-sent d s = rw (d, s)
+
+  pub tick-unsent : isDone (answerOf ch x) ≡ true → sends (ch .own) x ≡ false → ticked (carriedOut ch x) frame ≡ tickedBy ch taken frame
+  unfolding tickedBy frameAfter replied carriedOut
+  tick-unsent d s = rw (d, s)
+
+  pub tick-refused : (a : Answer) → a ≡ answerOf ch x → isDone a ≡ false → ticked (refused ch a) frame ≡ tickedBy ch taken frame
+  unfolding tickedBy frameAfter replied refused
+  tick-refused a e d = rw (← e, d)
