@@ -1,10 +1,10 @@
 -- Reset timers, one for each bit of a vector, for any number of them. A bit is 1 while its timer is not 0. Assumes nothing.
-use Prim.Native.Nat.{ℕ, _-_}
+use Prim.Native.Nat.{ℕ, _+_, _-_, _*_, _^_}
 use mathlib.Core.Bool.{Bool, cond, _&&_, xor}
 use mathlib.Core.List.{List}
 use lib.Dec.{eqb, leb}
 use lib.ListN.{getD, length}
-use Rattle.bits.specs.Lists.{mapFrom, allBelow, anyBelow}
+use Rattle.bits.specs.Lists.{allBelow, anyBelow, mapFrom, sumBelow}
 use Rattle.bits.specs.Bits.{bitAt}
 
 -- every running timer one down; a stopped one stays 0
@@ -22,3 +22,10 @@ allWithin mask p ts = allBelow (λ k. leb (getD ts k 0) (cond (bitAt mask k) p 0
 -- the vectors of two tables differ in some bit
 unfoldable pub vectorsDiffer : List ℕ → List ℕ → Bool
 vectorsDiffer a b = anyBelow (λ k. xor (eqb (getD a k 0) 0) (eqb (getD b k 0) 0)) (length a)
+
+-- a timer's bit, and the byte of the vector whose first bit is timer `at`
+abbrev pub digitOf : ℕ → ℕ
+digitOf t = cond (eqb t 0) 0 1
+
+unfoldable pub vectorByte : List ℕ → ℕ → ℕ
+vectorByte ts at = sumBelow (λ i. 2 ^ i * digitOf (getD ts (at + i) 0)) 8

@@ -9,7 +9,7 @@ ghost use Prim.Native.Nat.{_-_, _*_, _^_, _≤_, _<_};
 ghost use lib.Count.{trailingZeros};
 ghost use lib.ListN.{length, getD, take};
 ghost use Rattle.bits.specs.Bits.{bitOf, bitAt, someMasked, countOnes, lowestIn};
-ghost use Rattle.bits.specs.Timers.{countedDown, loadedWhere, allWithin, vectorsDiffer};
+ghost use Rattle.bits.specs.Timers.{allWithin, countedDown, digitOf, loadedWhere, vectorByte, vectorsDiffer};
 
 // ---- bits of bytes
 
@@ -74,7 +74,7 @@ fn trailing_zeros(b: u8) -> usize
 
 // Where the lowest 1 of a byte string stands.
 pub enum Lowest {
-    At(usize),
+    At(u32),
     Nowhere,
 }
 
@@ -87,7 +87,7 @@ pub fn lowest_one(bytes: &[u8]) -> Lowest
     while i < bytes.len() {
         let b = bytes[i];
         if b != 0 {
-            return Lowest::At(8 * i + trailing_zeros(b));
+            return Lowest::At((8 * i + trailing_zeros(b)) as u32);
         }
         i = i + 1;
     }
@@ -167,4 +167,27 @@ pub fn vectors_differ(a: &[u16], b: &[u16]) -> bool
         i = i + 1;
     }
     found
+}
+
+// A timer's bit: 1 while it is not 0.
+fn digit(t: u16) -> u8
+    ensures { λ r. ⌜ (r ≡ digitOf t) × (r ≤ 1) ⌝ }
+{
+    if t == 0 { 0 } else { 1 }
+}
+
+// The byte of the vector whose first bit is timer `at`.
+pub fn vector_byte(timers: &[u16], at: usize) -> u8
+    requires { ⌜ at < 2 ^ 32 ⌝ }
+    ensures { λ r. ⌜ r ≡ vectorByte (now (timers .entry)) at ⌝ }
+{
+    let low = digit(timer_at(timers, at))
+        + 2 * digit(timer_at(timers, at + 1))
+        + 4 * digit(timer_at(timers, at + 2))
+        + 8 * digit(timer_at(timers, at + 3));
+    low
+        + 16 * digit(timer_at(timers, at + 4))
+        + 32 * digit(timer_at(timers, at + 5))
+        + 64 * digit(timer_at(timers, at + 6))
+        + 128 * digit(timer_at(timers, at + 7))
 }

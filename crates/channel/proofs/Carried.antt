@@ -17,8 +17,26 @@ use Rattle.channel.specs.Traffic.{framing, setupOf, trafficBy}
 use Rattle.channel.specs.Notes.{firstBy, secondBy}
 use Rattle.channel.specs.Refusals.{isDone}
 use Rattle.channel.specs.Channel.{
-  againFor, answerOf, carriedOut, eiraAfter, eraAfter, frameAfter, heardBy, modeAfter, notesAfter, ownAfter, refused, replied, requestsAfter,
-  ruleFor, sends, ticked, tickedBy, trafficAfter, trafficMoved, userAfter
+  againFor,
+  answerOf,
+  carriedOut,
+  eiraAfter,
+  eraAfter,
+  frameAfter,
+  heardBy,
+  modeAfter,
+  notesAfter,
+  ownAfter,
+  refused,
+  replied,
+  requestsAfter,
+  ruleFor,
+  sends,
+  ticked,
+  tickedBy,
+  trafficAfter,
+  trafficMoved,
+  userAfter,
 }
 use Rattle.channel.specs.Moved.{movedBy, told}
 
@@ -66,16 +84,16 @@ abbrev pub steppedTo : Channel → Mode → Traffic → List ℕ → List ℕ �
 steppedTo ch m x era eira =
     record {
       own =
-        record {
-          config = ch .own .config;
-          ticks = ch .own .ticks;
-          mode = m;
-          traffic = x;
-          user = ch .own .user;
-          requests = ch .own .requests;
-          era = era
-        };
-      eira = eira
+          record {
+            config = ch .own .config;
+            ticks = ch .own .ticks;
+            mode = m;
+            traffic = x;
+            user = ch .own .user;
+            requests = ch .own .requests;
+            era = era;
+          };
+      eira = eira;
     }
 
 -- a tick that is carried out, by its steps: EIRA after it is the only thing that depends on whether a frame is sent
@@ -83,21 +101,21 @@ pub tick-carried : (ch : Channel) (taken : Bool) (room : ℕ) (sent : Bool) (eir
     → sends (ch .own) (mainFunction taken room) ≡ sent
     → eiraAfter (ch .own) (ch .eira) (mainFunction taken room) ≡ eira
     → let s = setupOf (ch .own .config) (ch .own .ticks) in
-      let rule = ruleOf (ch .own .mode .state) 12 in
-      let after = modeBy rule false (ch .own .ticks) (ch .own .mode) in
-      let x = trafficBy rule false s (ch .own .mode) after (ch .own .traffic) in
-      carriedOut ch (mainFunction taken room)
-      ≡ told (steppedTo ch after (framing s after taken x) (countedDown (ch .own .era)) eira) (firstBy rule (ch .own .mode) after)
-        (secondBy rule (ch .own .mode) (ch .own .traffic))
-        (vectorsDiffer (ch .eira) eira)
-        (vectorsDiffer (ch .own .era) (countedDown (ch .own .era)))
-        sent
+    let rule = ruleOf (ch .own .mode .state) 12 in
+    let after = modeBy rule false (ch .own .ticks) (ch .own .mode) in
+    let x = trafficBy rule false s (ch .own .mode) after (ch .own .traffic) in
+    carriedOut ch (mainFunction taken room)
+    ≡ told (steppedTo ch after (framing s after taken x) (countedDown (ch .own .era)) eira) (firstBy rule (ch .own .mode) after)
+    (secondBy rule (ch .own .mode) (ch .own .traffic))
+    (vectorsDiffer (ch .eira) eira)
+    (vectorsDiffer (ch .own .era) (countedDown (ch .own .era)))
+    sent
 unfolding carriedOut ownAfter notesAfter modeAfter trafficAfter trafficMoved userAfter requestsAfter eraAfter ruleFor againFor told
 tick-carried ch taken room sent eira e w = rw (e, w)
 
 pub eira-sent : (ch : Channel) (taken : Bool) (room : ℕ) → sends (ch .own) (mainFunction taken room) ≡ true
     → eiraAfter (ch .own) (ch .eira) (mainFunction taken room)
-      ≡ sentLoaded (ch .own .config) (ch .own .ticks .reset) (ch .own .requests) (ch .eira)
+    ≡ sentLoaded (ch .own .config) (ch .own .ticks .reset) (ch .own .requests) (ch .eira)
 unfolding eiraAfter
 eira-sent ch taken room e = rw e
 
@@ -112,7 +130,7 @@ module _ (ch : Channel) (taken : Bool) (frame : List ℕ) where
 
   pub tick-sent : isDone (answerOf ch x) ≡ true → sends (ch .own) x ≡ true
       → ticked (carriedOut ch x) (framed (ch .own .config) (trafficMoved (ch .own) x) (ch .own .requests) (ch .own .user) frame)
-        ≡ tickedBy ch taken frame
+      ≡ tickedBy ch taken frame
   unfolding tickedBy frameAfter replied carriedOut
   tick-sent d s = rw (d, s)
 

@@ -1,13 +1,17 @@
 -- The channel: the fresh one, what is sound, and what every call gives. Assumes nothing.
 use Prim.Native.Nat.{ℕ}
 use mathlib.Core.Bool.{Bool, true, false, cond, not, _&&_, _||_}
-use mathlib.Core.List.{List, []}
+use mathlib.Core.List.{List, [], _∷_}
 use lib.Dec.{eqb}
 use lib.ListN.{length, take, replicate}
 use lib.Seq.{sets}
 use Rattle.answers.specs.declared.Answer.{Answer}
 use Rattle.answers.specs.declared.Answer.the-variants.{Done, Rule}
-use Rattle.bits.specs.Timers.{allWithin, countedDown, vectorsDiffer}
+use Rattle.bits.specs.declared.Lowest.{Lowest}
+use Rattle.bits.specs.declared.Lowest.the-variants.{At, Nowhere}
+use Rattle.bits.specs.Bits.{countOnes, lowestIn}
+use Rattle.bits.specs.Timers.{allWithin, countedDown, vectorByte, vectorsDiffer}
+use Rattle.pdu.specs.Pnc.{numberIn, numberOrZero, rangeOf}
 use Rattle.config.specs.declared.Config.{Config}
 use Rattle.config.specs.declared.Ticks.{Ticks}
 use Rattle.config.specs.Ranges.{userLengthOf}
@@ -20,6 +24,9 @@ use Rattle.channel.specs.declared.state.Channel.{Channel}
 use Rattle.channel.specs.declared.state.Notes.{Notes}
 use Rattle.channel.specs.declared.state.Note.the-variants.{Nothing}
 use Rattle.channel.specs.declared.state.Reply.{Reply}
+use Rattle.channel.specs.declared.state.Started.{Started}
+use Rattle.channel.specs.declared.state.Status.{Status}
+use Rattle.channel.specs.State.{stateNumber}
 use Rattle.channel.specs.declared.decision.Rule
 use Rattle.channel.specs.declared.decision.Rule.the-variants.{Keep}
 use Rattle.channel.specs.Decision.{
@@ -85,6 +92,45 @@ fresh c t =
           };
       eira = replicate 56 0;
     }
+
+-- initialising: 0, or 2 with the rule and a channel that is all zeros
+abbrev pub zeroConfig : Config
+zeroConfig =
+    record {
+      period = 0;
+      times = record { timeout = 0; wait = 0; repeat = 0; cycle = 0; offset = 0; fast = 0; remote = 0; reset = 0 };
+      immediate = 0;
+      node = 0;
+      passive = false;
+      layout = record { length = 0; sni = 0; cbv = 0 };
+      pn = record { on = false; start = 0; length = 0; awake = false; masked = 0; mask = replicate 8 0 };
+    }
+
+abbrev pub zeroTicks : Ticks
+zeroTicks = record { timeout = 0; wait = 0; repeat = 0; cycle = 0; offset = 0; fast = 0; remote = 0; reset = 0 }
+
+unfoldable pub zero : Channel
+zero =
+    record {
+      own =
+          record {
+            config = zeroConfig;
+            ticks = zeroTicks;
+            mode = mode BusSleep false false false 0 0 0;
+            traffic = freshTraffic;
+            user = replicate 8 0;
+            requests = replicate 8 0;
+            era = replicate 56 0;
+          };
+      eira = replicate 56 0;
+    }
+
+abbrev pub started : Channel → Answer → Started
+started ch a = record { channel = ch; answer = a }
+
+unfoldable pub initialised : Config → Started
+initialised c =
+    cond (eqb (firstBroken c) 0) (started (fresh c (ticksFor c)) Done) (started zero (Rule (firstBroken c)))
 
 -- ---- a call that is carried out
 
@@ -292,3 +338,33 @@ ticked r frame = record { reply = r; frame = frame }
 unfoldable pub tickedBy : Channel → Bool → List ℕ → Ticked
 tickedBy ch taken frame =
     ticked (replied ch (mainFunction taken (length frame))) (frameAfter ch (mainFunction taken (length frame)) frame)
+
+-- ---- status
+
+-- the vector of a table: a bit is 1 while its timer is not 0
+unfoldable pub vectorOf : List ℕ → List ℕ
+vectorOf ts =
+    vectorByte ts 0 ∷ vectorByte ts 8 ∷ vectorByte ts 16 ∷ vectorByte ts 24 ∷ vectorByte ts 32 ∷ vectorByte ts 40 ∷ vectorByte ts 48 ∷ []
+
+-- the PNC of the lowest one, 0 for none
+abbrev pub lowestPnc : Config → Lowest → ℕ
+lowestPnc c (At k) = numberOrZero (numberIn (rangeOf c) (record { 0 = k }))
+lowestPnc c Nowhere = 0
+
+-- the number of requested PNCs is the number of ones in EIRA's vector
+unfoldable pub shown : Channel → Status
+shown ch =
+    record {
+      answer = Done;
+      state = stateNumber (ch .own .mode .state);
+      era = vectorOf (ch .own .era);
+      eira = vectorOf (ch .eira);
+      count = countOnes (vectorOf (ch .eira));
+      lowest = lowestPnc (ch .own .config) (lowestIn (vectorOf (ch .eira)));
+    }
+
+unfoldable pub unshown : Answer → Status
+unshown a = record { answer = a; state = 0; era = replicate 7 0; eira = replicate 7 0; count = 0; lowest = 0 }
+
+unfoldable pub statusOf : Channel → Status
+statusOf ch = cond (isDone (answerOf ch status)) (shown ch) (unshown (answerOf ch status))

@@ -4,14 +4,28 @@
 // refusals included. Leaves to others: which tick is the last before Bus-Sleep, over whole lists of calls (`sleep`),
 // and the CAN driver.
 use answers::Answer;
+use bits::Lowest;
+use config::Config;
+use config::Layout;
+use config::Partial;
+use config::Ticks;
+use config::Times;
 use decision::Rule;
+use pdu::pnc::VectorBit;
 use state::Channel;
+use state::Mode;
 use state::Note;
 use state::Notes;
+use state::Own;
 use state::Reply;
+use state::Started;
+use state::State;
+use state::Status;
+use state::Traffic;
 ghost use mathlib.Core.Path.{_≡_};
 ghost use mathlib.Core.Bool.{false, true, cond};
 ghost use Rattle.channel.specs.declared.decision.Rule.the-variants.{Keep};
+ghost use Rattle.bits.specs.Bits.{countOnes, lowestIn};
 ghost use Rattle.channel.specs.Decision.{
   confirmPnAvailability,
   disableCommunication,
@@ -26,7 +40,23 @@ ghost use Rattle.channel.specs.Decision.{
   txConfirmation,
 };
 ghost use Rattle.channel.specs.Refusals.{firstOf, isDone, judged};
-ghost use Rattle.channel.specs.Channel.{refused, replied, ticked, tickedBy};
+ghost use Rattle.channel.specs.Channel.{
+  fresh,
+  freshMode,
+  freshTraffic,
+  initialised,
+  lowestPnc,
+  refused,
+  replied,
+  statusOf,
+  ticked,
+  tickedBy,
+  unshown,
+  vectorOf,
+  zero,
+  zeroConfig,
+  zeroTicks,
+};
 ghost use Rattle.channel.specs.Moved.{finished, movedBy, plainly, told};
 
 pub mod decision;
@@ -174,9 +204,233 @@ fn plain(ch: Channel, call: u8, passive: bool, off: bool, heeded: bool) -> Reply
     finish(ch, a, heed(heeded, rule), false)
 }
 
+// ---- status
+
+fn vector_of(t: &[u16; 56]) -> [u8; 7]
+    ensures { λ r. ⌜ r ≡ vectorOf (now (t .entry)) ⌝ }
+{
+    [
+        bits::vector_byte(t, 0),
+        bits::vector_byte(t, 8),
+        bits::vector_byte(t, 16),
+        bits::vector_byte(t, 24),
+        bits::vector_byte(t, 32),
+        bits::vector_byte(t, 40),
+        bits::vector_byte(t, 48),
+    ]
+}
+
+fn count_of(v: &[u8; 7]) -> u32
+    ensures { λ r. ⌜ r ≡ countOnes (now (v .entry)) ⌝ }
+{
+    bits::count_ones(v)
+}
+
+fn lowest_of(c: Config, v: &[u8; 7]) -> u32
+    ensures { λ r. ⌜ r ≡ lowestPnc c (lowestIn (now (v .entry))) ⌝ }
+{
+    let range = pdu::pnc::range_of(c);
+    let k = bits::lowest_one(v);
+    match k {
+        Lowest::At(b) => pdu::pnc::number_or_zero(VectorBit(b), range),
+        Lowest::Nowhere => 0,
+    }
+}
+
+fn unshown(a: Answer) -> Status
+    ensures { λ r. ⌜ r ≡ unshown a ⌝ }
+{
+    Status {
+        answer: a,
+        state: 0,
+        era: [0; 7],
+        eira: [0; 7],
+        count: 0,
+        lowest: 0,
+    }
+}
+
+// ---- initialising
+
+fn fresh_mode() -> Mode
+    ensures { λ r. ⌜ r ≡ freshMode ⌝ }
+{
+    Mode {
+        state: State::BusSleep,
+        requested: false,
+        sending: true,
+        filter: false,
+        nm: 0,
+        wait: 0,
+        repeat: 0,
+    }
+}
+
+fn fresh_traffic() -> Traffic
+    ensures { λ r. ⌜ r ≡ freshTraffic ⌝ }
+{
+    Traffic {
+        message: 0,
+        fast: 0,
+        remote: 0,
+        indicated: false,
+        repeating: false,
+        waking: false,
+    }
+}
+
+fn zero_ticks() -> Ticks
+    ensures { λ r. ⌜ r ≡ zeroTicks ⌝ }
+{
+    Ticks {
+        timeout: 0,
+        wait: 0,
+        repeat: 0,
+        cycle: 0,
+        offset: 0,
+        fast: 0,
+        remote: 0,
+        reset: 0,
+    }
+}
+
+fn zero_config() -> Config
+    ensures { λ r. ⌜ r ≡ zeroConfig ⌝ }
+{
+    let times = Times {
+        timeout: 0,
+        wait: 0,
+        repeat: 0,
+        cycle: 0,
+        offset: 0,
+        fast: 0,
+        remote: 0,
+        reset: 0,
+    };
+    let layout = Layout {
+        length: 0,
+        sni: 0,
+        cbv: 0,
+    };
+    let pn = Partial {
+        on: false,
+        start: 0,
+        length: 0,
+        awake: false,
+        masked: 0,
+        mask: [0; 8],
+    };
+    Config {
+        period: 0,
+        times: times,
+        immediate: 0,
+        node: 0,
+        passive: false,
+        layout: layout,
+        pn: pn,
+    }
+}
+
+fn zero() -> Channel
+    ensures { λ r. ⌜ r ≡ zero ⌝ }
+{
+    let mut m = fresh_mode();
+    m.sending = false;
+    let own = Own {
+        config: zero_config(),
+        ticks: zero_ticks(),
+        mode: m,
+        traffic: fresh_traffic(),
+        user: [0; Channel::BYTES],
+        requests: [0; Channel::BYTES],
+        era: [0; Channel::TIMERS],
+    };
+    Channel {
+        own: own,
+        eira: [0; Channel::TIMERS],
+    }
+}
+
 // ---- the calls
 
 impl Channel {
+    // One reset timer for each bit of seven PN bytes, the most that a PDU of eight has room for.
+    pub const TIMERS: usize = 56;
+    // The most bytes of user data or PN requests.
+    pub const BYTES: usize = 8;
+    // User data that was not set.
+    pub const UNSET: u8 = 0xFF;
+
+    // The freshly initialised channel of a configuration and its times in ticks.
+    pub fn fresh(c: Config, t: Ticks) -> Channel
+        ensures { λ r. ⌜ r ≡ fresh c t ⌝ }
+    {
+        let own = Own {
+            config: c,
+            ticks: t,
+            mode: fresh_mode(),
+            traffic: fresh_traffic(),
+            user: [Channel::UNSET; Channel::BYTES],
+            requests: [0; Channel::BYTES],
+            era: [0; Channel::TIMERS],
+        };
+        Channel {
+            own: own,
+            eira: [0; Channel::TIMERS],
+        }
+    }
+
+    // A channel of a configuration, which is refused by the first rule that it breaks.
+    pub fn initialise(c: Config) -> Started
+        ensures { λ r. ⌜ r ≡ initialised c ⌝ }
+    {
+        let rule = config::first_broken_rule(c);
+        if rule == 0 {
+            return Started {
+                channel: Channel::fresh(c, config::ticks_for(c)),
+                answer: Answer::Done,
+            };
+        }
+        Started {
+            channel: zero(),
+            answer: Answer::Rule(rule),
+        }
+    }
+
+    // The state, both vectors, and what EIRA says of the PNCs.
+    pub fn status(self) -> Status
+        ensures { λ r. ⌜ r ≡ statusOf self ⌝ }
+    {
+        let c = self.own.config;
+        let m = self.own.mode;
+        let state = m.state;
+        let ok = sound::sound(
+            c,
+            self.own.ticks,
+            m,
+            self.own.traffic,
+            &self.own.era,
+            &self.eira,
+        );
+        let elsewhere = decision::is_not_here(decision::rule_of(state, decision::STATUS));
+        let a = judge(ok, false, false, elsewhere, false);
+        if is_done(a) {
+            let era = vector_of(&self.own.era);
+            let eira = vector_of(&self.eira);
+            let count = count_of(&eira);
+            let lowest = lowest_of(c, &eira);
+            return Status {
+                answer: Answer::Done,
+                state: decision::state_number(state),
+                era: era,
+                eira: eira,
+                count: count,
+                lowest: lowest,
+            };
+        }
+        unshown(a)
+    }
+
     // The host asks for the network.
     pub fn network_request(self) -> Reply
         ensures { λ r. ⌜ r ≡ replied self networkRequest ⌝ }

@@ -76,3 +76,19 @@ pub struct Reply {
     pub notes: Notes,
     pub sent: bool,
 }
+
+// What initialising gives: the channel and the answer.
+pub struct Started {
+    pub channel: Channel,
+    pub answer: Answer,
+}
+
+// What status gives: the state's number, both vectors, how many PNCs EIRA has and the lowest of them.
+pub struct Status {
+    pub answer: Answer,
+    pub state: u8,
+    pub era: [u8; 7],
+    pub eira: [u8; 7],
+    pub count: u32,
+    pub lowest: u32,
+}

@@ -6,8 +6,6 @@ use super::state::Traffic;
 use config::Config;
 use config::Ticks;
 ghost use mathlib.Core.Path.{_≡_};
-ghost use mathlib.Core.Bool.{cond};
-ghost use lib.Dec.{ltb};
 ghost use Rattle.channel.specs.State.{isNormal, isPrepare, isRepeat, transmits};
 ghost use Rattle.channel.specs.Traffic.{
   counts,
@@ -37,22 +35,12 @@ pub struct Setup {
     pub passive: bool,
 }
 
-// A number of 16 bits, 0 where it has more: no configuration that passes has such a one.
-fn narrow(x: u64) -> u16
-    ensures { λ r. ⌜ r ≡ cond (ltb x 65536) x 0 ⌝ }
-{
-    if x < 65536 {
-        return x as u16;
-    }
-    0
-}
-
 pub fn setup_of(c: Config, t: Ticks) -> Setup
     ensures { λ r. ⌜ r ≡ setupOf c t ⌝ }
 {
     Setup {
         ticks: t,
-        immediate: narrow(c.immediate),
+        immediate: choice::narrow16(c.immediate),
         passive: c.passive,
     }
 }

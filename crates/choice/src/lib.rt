@@ -3,6 +3,7 @@
 //
 // Promises: each function is the library's operation of the same meaning.
 ghost use mathlib.Core.Path.{_≡_};
+ghost use lib.Dec.{ltb};
 ghost use mathlib.Core.Bool.{Bool, true, false, cond, not, _&&_, _||_, xor};
 
 pub fn both(a: bool, b: bool) -> bool
@@ -58,4 +59,14 @@ pub fn pick64(test: bool, a: u64, b: u64) -> u64
     ensures { λ r. ⌜ r ≡ cond test a b ⌝ }
 {
     if test { a } else { b }
+}
+
+// A number of 16 bits, 0 where it has more.
+pub fn narrow16(x: u64) -> u16
+    ensures { λ r. ⌜ r ≡ cond (ltb x 65536) x 0 ⌝ }
+{
+    if x < 65536 {
+        return x as u16;
+    }
+    0
 }

@@ -3,6 +3,7 @@ use Prim.Native.Nat.{ℕ, _+_, _-_, _*_, _/_, _%_}
 use mathlib.Core.Path.{_≡_}
 use mathlib.Core.Bool.{Bool, cond, _&&_}
 use lib.Dec.{leb, ltb}
+use Rattle.config.specs.declared.Config.{Config}
 use Rattle.pdu.specs.declared.pnc.PncNumber.{PncNumber}
 use Rattle.pdu.specs.declared.pnc.VectorBit.{VectorBit}
 use Rattle.pdu.specs.declared.pnc.PnRange.{PnRange}
@@ -23,6 +24,18 @@ bitIn r p =
     cond (leb (8 * r .start) (p .0) && ltb (p .0) (8 * (r .start + r .length)))
     (Bit (record { 0 = p .0 - 8 * r .start }))
     NoPnc
+
+-- the PN range of a configuration
+abbrev narrowed : ℕ → ℕ
+narrowed x = cond (ltb x 65536) x 0
+
+unfoldable pub rangeOf : Config → PnRange
+rangeOf c = record { start = narrowed (c .pn .start); length = narrowed (c .pn .length) }
+
+-- the number alone, 0 for none
+abbrev pub numberOrZero : NumberOf → ℕ
+numberOrZero (Number p) = p .0
+numberOrZero NoBit = 0
 
 -- the claim that the two conversions undo each other, in every range
 pub record Inverse (r : PnRange) : Type 0 where

@@ -1,6 +1,7 @@
 // A PNC's number, and its place in the vector: two kinds of thing, with one conversion each way.
+use config::Config;
 ghost use mathlib.Core.Path.{_≡_};
-ghost use Rattle.pdu.specs.Pnc.{bitIn, numberIn};
+ghost use Rattle.pdu.specs.Pnc.{bitIn, numberIn, numberOrZero, rangeOf};
 
 // The number of a partial network cluster.
 pub struct PncNumber(pub u32);
@@ -24,6 +25,27 @@ pub enum BitOf {
     Bit(VectorBit),
     // The PNC lies outside the range.
     NoPnc,
+}
+
+// The PN range of a configuration.
+pub fn range_of(c: Config) -> PnRange
+    ensures { λ r. ⌜ r ≡ rangeOf c ⌝ }
+{
+    PnRange {
+        start: choice::narrow16(c.pn.start),
+        length: choice::narrow16(c.pn.length),
+    }
+}
+
+// The PNC number of a bit, 0 where the vector has no such bit.
+pub fn number_or_zero(b: VectorBit, range: PnRange) -> u32
+    ensures { λ r. ⌜ r ≡ numberOrZero (numberIn range b) ⌝ }
+{
+    let n = b.number(range);
+    match n {
+        NumberOf::Number(p) => p.0,
+        NumberOf::NoBit => 0,
+    }
 }
 
 impl VectorBit {

@@ -22,6 +22,11 @@ small c =
     let l = c .before .before .before .before in
     omega (arith, c .trailing-zeros .ensures, trailing-le 8 (getD (l .before .before .args .bytes .now) (l .loop .i) 0))
 
+narrow : tie.Need-cast-t11 Inv-loop μ-loop
+narrow c =
+    let l = c .before .before .before .before in
+    omega (arith, c .trailing-zeros .ensures, trailing-le 8 (getD (l .before .before .args .bytes .now) (l .loop .i) 0))
+
 returns : tie.Need-returns Inv-loop μ-loop
 returns c =
     let l = c .before .before .before .before in
@@ -41,6 +46,7 @@ lowest-one-spec =
     (λ c. omega arith)
     (λ c κs. tt)
     small
+    narrow
     returns
     (λ c. omega arith)
     (λ c. omega arith)

@@ -5,7 +5,7 @@ use Rattle.channel.proofs.traffic.setup_of.Tie as tie
 
 returns : tie.Need-returns
 unfolding setupOf
-returns c = rw (c .narrow .ensures)
+returns c = rw (c .narrow16 .ensures)
 
 pub setup-of-spec : {M : Type 1} → statement M
 setup-of-spec = tie.close (tie.spec (λ c κs. tt) returns)

@@ -8,7 +8,15 @@ use Rattle.channel.specs.Decision.{mainFunction}
 use Rattle.channel.specs.Heard.{framed}
 use Rattle.channel.specs.Refusals.{isDone, refusal}
 use Rattle.channel.specs.Channel.{
-  againFor, answerOf, carriedOut, eiraAfter, modeAfter, ruleFor, sends, sound, trafficMoved
+  againFor,
+  answerOf,
+  carriedOut,
+  eiraAfter,
+  modeAfter,
+  ruleFor,
+  sends,
+  sound,
+  trafficMoved,
 }
 use Rattle.channel.proofs.Carried.{eira-sent, eira-unsent, tick-carried, tick-refused, tick-sent, tick-unsent}
 use Rattle.channel.proofs.state.Channel.main_function.Statement.{statement}
@@ -45,19 +53,21 @@ returns c =
     let room = length (a .frame .now) in
     let sent = sym (sending f) ∙ c .before .before .before .before .before .before .before .before .before .before .before .before .if2 .taken in
     let reply : c .told .result ≡ carriedOut (a .t1) (mainFunction (a .taken) room) =
-          rw (c .told .ensures,
-          c .before .before .before .before .before .before .before .load-sent .ensures .1,
-          c .before .before .before .before .before .before .before .load-sent .ensures .0,
-          c .before .before .before .before .before .before .before .before .before .before .before .before .before .count-down .ensures .1,
-          c .before .before .before .before .before .before .before .before .before .before .before .before .before .count-down .ensures .0,
-          f .framing .ensures,
-    f .before .before .before .second-by .ensures,
-    f .before .before .before .before .first-by .ensures,
-    f .before .before .before .before .before .traffic-by .ensures,
-    f .before .before .before .before .before .before .setup-of .ensures,
-    f .before .before .before .before .before .before .before .mode-by .ensures,
-    f .before .before .before .before .before .before .before .before .before .before .before .before .before .before .rule-of .ensures)
-          (sym (tick-carried (a .t1) (a .taken) room true _ sent (eira-sent (a .t1) (a .taken) room sent))) in
+    rw (
+      c .told .ensures,
+      c .before .before .before .before .before .before .before .load-sent .ensures .1,
+      c .before .before .before .before .before .before .before .load-sent .ensures .0,
+      c .before .before .before .before .before .before .before .before .before .before .before .before .before .count-down .ensures .1,
+      c .before .before .before .before .before .before .before .before .before .before .before .before .before .count-down .ensures .0,
+      f .framing .ensures,
+      f .before .before .before .second-by .ensures,
+      f .before .before .before .before .first-by .ensures,
+      f .before .before .before .before .before .traffic-by .ensures,
+      f .before .before .before .before .before .before .setup-of .ensures,
+      f .before .before .before .before .before .before .before .mode-by .ensures,
+      f .before .before .before .before .before .before .before .before .before .before .before .before .before .before .rule-of .ensures,
+    )
+    (sym (tick-carried (a .t1) (a .taken) room true _ sent (eira-sent (a .t1) (a .taken) room sent))) in
     rw (reply, framing-sent c) (tick-sent (a .t1) (a .taken) (a .frame .now) (done f) sent)
 
 returns-2 : tie.Need-returns-2
@@ -67,19 +77,21 @@ returns-2 c =
     let room = length (a .frame .now) in
     let sent = sym (sending f) ∙ c .before .before .before .if2 .left in
     let reply : c .told2 .result ≡ carriedOut (a .t1) (mainFunction (a .taken) room) =
-          rw (c .told2 .ensures,
-          c .before .count-down2 .ensures .1,
-          c .before .count-down2 .ensures .0,
-          c .before .before .before .before .count-down .ensures .1,
-          c .before .before .before .before .count-down .ensures .0,
-          f .framing .ensures,
-    f .before .before .before .second-by .ensures,
-    f .before .before .before .before .first-by .ensures,
-    f .before .before .before .before .before .traffic-by .ensures,
-    f .before .before .before .before .before .before .setup-of .ensures,
-    f .before .before .before .before .before .before .before .mode-by .ensures,
-    f .before .before .before .before .before .before .before .before .before .before .before .before .before .before .rule-of .ensures)
-          (sym (tick-carried (a .t1) (a .taken) room false _ sent (eira-unsent (a .t1) (a .taken) room sent))) in
+    rw (
+      c .told2 .ensures,
+      c .before .count-down2 .ensures .1,
+      c .before .count-down2 .ensures .0,
+      c .before .before .before .before .count-down .ensures .1,
+      c .before .before .before .before .count-down .ensures .0,
+      f .framing .ensures,
+      f .before .before .before .second-by .ensures,
+      f .before .before .before .before .first-by .ensures,
+      f .before .before .before .before .before .traffic-by .ensures,
+      f .before .before .before .before .before .before .setup-of .ensures,
+      f .before .before .before .before .before .before .before .mode-by .ensures,
+      f .before .before .before .before .before .before .before .before .before .before .before .before .before .before .rule-of .ensures,
+    )
+    (sym (tick-carried (a .t1) (a .taken) room false _ sent (eira-unsent (a .t1) (a .taken) room sent))) in
     rw reply (tick-unsent (a .t1) (a .taken) (a .frame .now) (done f) sent)
 
 returns-3 : tie.Need-returns-3
