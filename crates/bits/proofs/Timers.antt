@@ -101,3 +101,17 @@ within-loaded-where bytes mask p ts e =
     (λ k l.
     let h : k < length ts = rw (length-loaded-where bytes mask p ts) at l in
     rw (at-loaded-where bytes mask p ts k h) (loaded-one (bitAt bytes k) (bitAt mask k) p (getD ts k 0) (within-at mask p ts k e h)))
+
+xor-self : (b : Bool) → xor b b ≡ false
+unfolding xor
+xor-self true = refl
+xor-self false = refl
+
+none-below : (p : ℕ → Bool) (n : ℕ) → ((k : ℕ) → p k ≡ false) → anyBelow p n ≡ false
+none-below p zero h = refl
+none-below p (suc n) h = rw (none-below p n h, h n)
+
+-- a vector does not differ from itself
+pub differs-not : (ts : List ℕ) → vectorsDiffer ts ts ≡ false
+unfolding vectorsDiffer
+differs-not ts = none-below (λ k. xor (eqb (getD ts k 0) 0) (eqb (getD ts k 0) 0)) (length ts) (λ k. xor-self (eqb (getD ts k 0) 0))

@@ -8,14 +8,14 @@ use Rattle.channel.specs.declared.state.Channel.{Channel}
 use Rattle.channel.specs.declared.state.Reply.{Reply}
 use lib.ListN.{length}
 use Rattle.bits.specs.Timers.{countedDown, vectorsDiffer}
-use Rattle.channel.specs.Decision.{Call, rxIndication, mainFunction, ruleOf}
-use Rattle.channel.specs.Heard.{accepted, asksRepeat, framed, loadedBy, sentLoaded}
-use Rattle.channel.specs.declared.state.Mode.{Mode}
-use Rattle.channel.specs.declared.state.Traffic.{Traffic}
-use Rattle.channel.specs.Mode.{modeBy}
-use Rattle.channel.specs.Traffic.{framing, setupOf, trafficBy}
-use Rattle.channel.specs.Notes.{firstBy, secondBy}
-use Rattle.channel.specs.Refusals.{isDone}
+use Rattle.rules.specs.Decision.{Call, rxIndication, mainFunction, ruleOf}
+use Rattle.rules.specs.Heard.{accepted, asksRepeat, framed, loadedBy, sentLoaded}
+use Rattle.rules.specs.declared.state.Mode.{Mode}
+use Rattle.rules.specs.declared.state.Traffic.{Traffic}
+use Rattle.rules.specs.Mode.{modeBy}
+use Rattle.rules.specs.Traffic.{framing, setupOf, trafficBy}
+use Rattle.rules.specs.Notes.{firstBy, secondBy}
+use Rattle.rules.specs.Refusals.{isDone}
 use Rattle.channel.specs.Channel.{
   againFor,
   answerOf,

@@ -1,5 +1,2 @@
-pub mod Table
-pub mod States
-pub mod Kept
 pub mod Numbers
 pub mod Carried

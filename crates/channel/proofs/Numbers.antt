@@ -1,14 +1,9 @@
 -- The calls that change no vector and no byte go by their number. Assumes nothing.
-use mathlib.Core.Path.{_≡_, refl}
-use mathlib.Core.Bool.{Bool, true, false, cond, xor}
-use mathlib.Core.List.{List}
-use Prim.Native.Nat.{ℕ, zero, suc}
-use lib.Dec.{eqb}
-use lib.ListN.{length, getD}
-use Rattle.bits.specs.Lists.{anyBelow}
-use Rattle.bits.specs.Timers.{vectorsDiffer}
+use mathlib.Core.Path.{_≡_}
+use mathlib.Core.Bool.{Bool, true}
+use Rattle.bits.proofs.Timers.{differs-not}
 use Rattle.channel.specs.declared.state.Channel.{Channel}
-use Rattle.channel.specs.Decision.{
+use Rattle.rules.specs.Decision.{
   Call,
   networkRequest,
   networkRelease,
@@ -25,7 +20,7 @@ use Rattle.channel.specs.Decision.{
   mainFunction,
   callNumber,
 }
-use Rattle.channel.specs.Refusals.{refusal, refusedPassive, refusedPnOff}
+use Rattle.rules.specs.Refusals.{refusal, refusedPassive, refusedPnOff}
 use Rattle.channel.specs.Channel.{
   againFor,
   answerOf,
@@ -47,20 +42,6 @@ use Rattle.channel.specs.Channel.{
   userAfter,
 }
 use Rattle.channel.specs.Moved.{finished, movedBy, plainly}
-
-xor-self : (b : Bool) → xor b b ≡ false
-unfolding xor
-xor-self true = refl
-xor-self false = refl
-
-none-below : (p : ℕ → Bool) (n : ℕ) → ((k : ℕ) → p k ≡ false) → anyBelow p n ≡ false
-none-below p zero h = refl
-none-below p (suc n) h = rw (none-below p n h, h n)
-
--- a vector does not differ from itself
-pub differs-not : (ts : List ℕ) → vectorsDiffer ts ts ≡ false
-unfolding vectorsDiffer
-differs-not ts = none-below (λ k. xor (eqb (getD ts k 0) 0) (eqb (getD ts k 0) 0)) (length ts) (λ k. xor-self (eqb (getD ts k 0) 0))
 
 -- the calls that change no vector and no byte; a bad confirmation is not heeded
 abbrev pub Plain : Call → Type 0

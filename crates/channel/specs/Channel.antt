@@ -16,20 +16,21 @@ use Rattle.config.specs.declared.Config.{Config}
 use Rattle.config.specs.declared.Ticks.{Ticks}
 use Rattle.config.specs.Ranges.{userLengthOf}
 use Rattle.config.specs.Rules.{firstBroken, ticksFor}
-use Rattle.channel.specs.declared.state.State.the-variants.{BusSleep}
-use Rattle.channel.specs.declared.state.Mode.{Mode}
-use Rattle.channel.specs.declared.state.Traffic.{Traffic}
+use Rattle.rules.specs.declared.state.State.the-variants.{BusSleep}
+use Rattle.rules.specs.declared.state.Mode.{Mode}
+use Rattle.rules.specs.declared.state.Traffic.{Traffic}
 use Rattle.channel.specs.declared.state.Own.{Own}
 use Rattle.channel.specs.declared.state.Channel.{Channel}
 use Rattle.channel.specs.declared.state.Notes.{Notes}
-use Rattle.channel.specs.declared.state.Note.the-variants.{Nothing}
+use Rattle.rules.specs.declared.state.Note.{Note}
+use Rattle.rules.specs.declared.state.Note.the-variants.{Nothing}
 use Rattle.channel.specs.declared.state.Reply.{Reply}
 use Rattle.channel.specs.declared.state.Started.{Started}
 use Rattle.channel.specs.declared.state.Status.{Status}
-use Rattle.channel.specs.State.{stateNumber}
-use Rattle.channel.specs.declared.decision.Rule
-use Rattle.channel.specs.declared.decision.Rule.the-variants.{Keep}
-use Rattle.channel.specs.Decision.{
+use Rattle.rules.specs.State.{stateNumber}
+use Rattle.rules.specs.declared.decision.Rule
+use Rattle.rules.specs.declared.decision.Rule.the-variants.{Keep}
+use Rattle.rules.specs.Decision.{
   Call,
   networkRequest,
   networkRelease,
@@ -47,22 +48,17 @@ use Rattle.channel.specs.Decision.{
   callNumber,
   ruleOf,
 }
-use Rattle.channel.specs.Mode.{mode, modeBy}
-use Rattle.channel.specs.Traffic.{traffic, trafficBy, setupOf, framing, isDue}
-use Rattle.channel.specs.Notes.{firstBy, secondBy, notes}
-use Rattle.channel.specs.Sound.{configured, modeSound, trafficSound, passiveSound}
-use Rattle.channel.specs.Heard.{accepted, asksRepeat, framed, loadedBy, sentLoaded}
-use Rattle.channel.specs.Refusals.{refusal, isDone, judged}
+use Rattle.rules.specs.Mode.{mode, modeBy}
+use Rattle.rules.specs.Traffic.{traffic, trafficBy, setupOf, framing, isDue}
+use Rattle.rules.specs.Notes.{firstBy, secondBy}
+use Rattle.rules.specs.Sound.{scalarsSound, timersSound}
+use Rattle.rules.specs.Heard.{accepted, asksRepeat, framed, loadedBy, sentLoaded}
+use Rattle.rules.specs.Refusals.{refusal, isDone, judged}
+
+abbrev pub notes : Note → Note → Bool → Bool → Notes
+notes first second ei er = record { first = first; second = second; eira = ei; era = er }
 
 -- ---- sound
-
--- the PN timers: within the reset time, and 0 for bits outside the mask
-abbrev pub timersSound : Config → Ticks → List ℕ → Bool
-timersSound c t timers = allWithin (take (c .pn .length) (c .pn .mask)) (t .reset) timers
-
-unfoldable pub scalarsSound : Config → Ticks → Mode → Traffic → Bool
-scalarsSound c t m x =
-    configured c t && modeSound t m && trafficSound (setupOf c t) (m .state) x && passiveSound (c .passive) m x
 
 unfoldable pub sound : Channel → Bool
 sound ch =

@@ -1,10 +1,2 @@
-pub mod State
-pub mod Decision
-pub mod Mode
-pub mod Traffic
-pub mod Notes
-pub mod Sound
-pub mod Heard
-pub mod Refusals
 pub mod Channel
 pub mod Moved

@@ -4,16 +4,16 @@ use mathlib.Core.Bool.{Bool, false, cond}
 use Rattle.answers.specs.declared.Answer.{Answer}
 use Rattle.answers.specs.declared.Answer.the-variants.{Done}
 use Rattle.channel.specs.declared.state.Channel.{Channel}
-use Rattle.channel.specs.declared.state.Note.{Note}
+use Rattle.rules.specs.declared.state.Note.{Note}
 use Rattle.channel.specs.declared.state.Reply.{Reply}
-use Rattle.channel.specs.declared.decision.Rule.{Rule}
-use Rattle.channel.specs.Mode.{modeBy}
-use Rattle.channel.specs.Traffic.{trafficBy, setupOf}
-use Rattle.channel.specs.Notes.{firstBy, secondBy, notes}
-use Rattle.channel.specs.declared.decision.Rule.the-variants.{Keep}
-use Rattle.channel.specs.Decision.{isNotHere, ruleOf}
-use Rattle.channel.specs.Refusals.{firstOf, isDone, judged}
-use Rattle.channel.specs.Channel.{refused, sound}
+use Rattle.rules.specs.declared.decision.Rule.{Rule}
+use Rattle.rules.specs.Mode.{modeBy}
+use Rattle.rules.specs.Traffic.{trafficBy, setupOf}
+use Rattle.rules.specs.Notes.{firstBy, secondBy}
+use Rattle.rules.specs.declared.decision.Rule.the-variants.{Keep}
+use Rattle.rules.specs.Decision.{isNotHere, ruleOf}
+use Rattle.rules.specs.Refusals.{firstOf, isDone, judged}
+use Rattle.channel.specs.Channel.{notes, refused, sound}
 
 -- moved by a rule; ei and er say whether the vectors changed
 unfoldable pub movedBy : Channel → Rule → Bool → Bool → Bool → Reply

@@ -4,9 +4,9 @@ use mathlib.Core.Path.{_≡_, sym, _∙_}
 use mathlib.Core.Bool.{true, false}
 use borrow.Author.Needs.{needs}
 use lib.ListN.{length}
-use Rattle.channel.specs.Decision.{mainFunction}
-use Rattle.channel.specs.Heard.{framed}
-use Rattle.channel.specs.Refusals.{isDone, refusal}
+use Rattle.rules.specs.Decision.{mainFunction}
+use Rattle.rules.specs.Heard.{framed}
+use Rattle.rules.specs.Refusals.{isDone, refusal}
 use Rattle.channel.specs.Channel.{
   againFor,
   answerOf,

@@ -1,10 +1,10 @@
 -- `channel::state::Channel::rx_indication` meets its contract. Assumes nothing.
 use mathlib.Core.Path.{_≡_, sym, _∙_}
-use Rattle.channel.specs.Decision.{rxIndication}
-use Rattle.channel.specs.Refusals.{refusal}
-use Rattle.channel.specs.Mode.{modeBy}
-use Rattle.channel.specs.Traffic.{trafficBy}
-use Rattle.channel.specs.Notes.{firstBy, secondBy}
+use Rattle.rules.specs.Decision.{rxIndication}
+use Rattle.rules.specs.Refusals.{refusal}
+use Rattle.rules.specs.Mode.{modeBy}
+use Rattle.rules.specs.Traffic.{trafficBy}
+use Rattle.rules.specs.Notes.{firstBy, secondBy}
 use Rattle.channel.specs.Channel.{
   againFor,
   answerOf,
@@ -25,7 +25,7 @@ use Rattle.channel.specs.Channel.{
 }
 use Rattle.channel.specs.Moved.{movedBy}
 use Rattle.channel.proofs.Carried.{carried, heard-carried, not-carried}
-use Rattle.channel.proofs.Numbers.{differs-not}
+use Rattle.bits.proofs.Timers.{differs-not}
 use Rattle.channel.proofs.state.Channel.rx_indication.Statement.{statement}
 use Rattle.channel.proofs.state.Channel.rx_indication.Tie as tie
 

@@ -1,7 +1,7 @@
 -- `channel::state::Channel::set_user_data` meets its contract. Assumes nothing.
 use mathlib.Core.Path.{_≡_}
-use Rattle.channel.specs.Decision.{setUserData}
-use Rattle.channel.specs.Refusals.{refusal}
+use Rattle.rules.specs.Decision.{setUserData}
+use Rattle.rules.specs.Refusals.{refusal}
 use Rattle.channel.specs.Channel.{
   againFor,
   answerOf,
@@ -22,7 +22,7 @@ use Rattle.channel.specs.Channel.{
 }
 use Rattle.channel.specs.Moved.{movedBy}
 use Rattle.channel.proofs.Carried.{carried, not-carried}
-use Rattle.channel.proofs.Numbers.{differs-not}
+use Rattle.bits.proofs.Timers.{differs-not}
 use Rattle.channel.proofs.state.Channel.set_user_data.Statement.{statement}
 use Rattle.channel.proofs.state.Channel.set_user_data.Tie as tie
 

@@ -1,0 +1,11 @@
+-- `rules::traffic::is_due` meets its contract. Assumes nothing.
+use Rattle.rules.specs.Traffic.{isDue}
+use Rattle.rules.proofs.traffic.is_due.Statement.{statement}
+use Rattle.rules.proofs.traffic.is_due.Tie as tie
+
+returns : tie.Need-returns
+unfolding isDue
+returns c = rw (c .both .ensures, c .before .before .counts .ensures)
+
+pub is-due-spec : {M : Type 1} → statement M
+is-due-spec = tie.close (tie.spec (λ c κs. tt) (λ c κs. tt) returns)
