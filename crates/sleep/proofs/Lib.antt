@@ -1,0 +1,10 @@
+pub mod Simulation
+pub mod Entering
+pub mod Quieting
+pub mod Counting
+pub mod Passing
+pub mod PnTimers
+pub mod Traffic
+pub mod Kept
+pub mod Whole
+pub mod Theorem
