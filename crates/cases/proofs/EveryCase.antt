@@ -1,7 +1,7 @@
 -- Every case of the table holds: one test that is computed over the whole table, and one law that turns it into an equation
 -- for each case. Assumes nothing.
 use mathlib.Core.Path.{_≡_, refl, ap}
-use mathlib.Core.Bool.{Bool, true, false, _&&_, false≢true}
+use mathlib.Core.Bool.{Bool, true, false, _&&_, false≢true, xor}
 use mathlib.Core.List.{List, [], _∷_}
 use Prim.Native.Nat.{ℕ, zero, suc, _<_}
 use native.Mathlib.Nat.{le-of-suc-le-suc, not-suc-le-zero}
@@ -32,7 +32,50 @@ use Rattle.config.specs.Rules.{
   pnAbsent,
 }
 use Rattle.pdu.specs.Filter.{verdictOf, keeps}
-use Rattle.cases.specs.Cases.{Case, table}
+use Rattle.bits.specs.Timers.{allWithin, countedDown, loadedWhere, vectorsDiffer}
+use Rattle.rules.specs.Decision.{ruleAt, table}
+use Rattle.rules.specs.Mode.{
+  enabled,
+  enterNetwork,
+  enterRepeat,
+  heard,
+  modeBy,
+  nmInReady,
+  nmInRepeatOrNormal,
+  prepared,
+  repeatInRepeat,
+  restart,
+  waitInPrepare,
+}
+use Rattle.rules.specs.Traffic.{counts, framing, inNormal, inReady, inRepeat, isDue, setupOf, toRepeat, trafficBy}
+use Rattle.rules.specs.Notes.{firstBy, secondBy}
+use Rattle.rules.specs.Sound.{configured, modeSound, passiveSound, scalarsSound, trafficSound}
+use Rattle.rules.specs.Heard.{accepted, asksRepeat, loadedBy, sentLoaded}
+use Rattle.rules.specs.Refusals.{refusal}
+use Rattle.channel.specs.Channel.{
+  againFor,
+  answerOf,
+  carriedOut,
+  eiraAfter,
+  eraAfter,
+  fresh,
+  heardBy,
+  initialised,
+  modeAfter,
+  notesAfter,
+  ownAfter,
+  refused,
+  replied,
+  requestsAfter,
+  ruleFor,
+  sends,
+  sound,
+  trafficAfter,
+  trafficMoved,
+  userAfter,
+}
+use Rattle.cases.specs.Cases.{Case}
+use Rattle.cases.specs.Cases as cases
 
 -- two lists of numbers are equal, as a test
 same : List ℕ → List ℕ → Bool
@@ -59,9 +102,9 @@ each [] d e k h = absurd (not-suc-le-zero h)
 each (x ∷ xs) d e zero h = same-true (x .got) (x .wanted) (and-left (same (x .got) (x .wanted)) (pass xs) e)
 each (x ∷ xs) d e (suc k) h = each xs d (and-right (same (x .got) (x .wanted)) (pass xs) e) k (le-of-suc-le-suc h)
 
-all-pass : pass table ≡ true
-unfolding pass same conversionOf ticksOf firstBroken firstBrokenBy ticksFor rule1 rule2 rule3 rule4 rule5 rule6 rule7 rule8 timesWithin pnRange pnTime pnAbsent within headerLength verdictOf keeps someMasked
+all-pass : pass cases.table ≡ true
+unfolding pass same conversionOf ticksOf firstBroken firstBrokenBy ticksFor rule1 rule2 rule3 rule4 rule5 rule6 rule7 rule8 timesWithin pnRange pnTime pnAbsent within headerLength verdictOf keeps someMasked initialised fresh replied answerOf refused carriedOut ownAfter notesAfter modeAfter trafficAfter trafficMoved userAfter requestsAfter eraAfter eiraAfter heardBy sends ruleFor againFor sound scalarsSound configured modeSound trafficSound passiveSound refusal ruleAt table modeBy enterNetwork enterRepeat restart heard enabled nmInRepeatOrNormal prepared nmInReady waitInPrepare repeatInRepeat setupOf toRepeat trafficBy inReady inRepeat inNormal framing counts isDue firstBy secondBy accepted asksRepeat loadedBy sentLoaded allWithin countedDown vectorsDiffer loadedWhere xor
 all-pass = refl
 
-pub every-case : (none : Case) (k : ℕ) → k < length table → getD table k none .got ≡ getD table k none .wanted
-every-case none k h = each table none all-pass k h
+pub every-case : (none : Case) (k : ℕ) → k < length cases.table → getD cases.table k none .got ≡ getD cases.table k none .wanted
+every-case none k h = each cases.table none all-pass k h

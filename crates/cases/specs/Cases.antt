@@ -1,5 +1,5 @@
 -- The cases to be proved, in one table: numbers that the definitions give, and those that they should give. Assumes nothing.
-use Prim.Native.Nat.{ℕ}
+use Prim.Native.Nat.{ℕ, zero, suc}
 use mathlib.Core.Bool.{Bool, true, false}
 use mathlib.Core.List.{List, [], _∷_}
 use Rattle.ticks.specs.declared.Conversion.{Conversion}
@@ -10,8 +10,25 @@ use Rattle.config.specs.declared.Partial.{Partial}
 use Rattle.config.specs.declared.Layout.{Layout}
 use Rattle.config.specs.Ranges.{off}
 use Rattle.config.specs.Rules.{firstBroken}
+use Rattle.answers.specs.Answers.{numberOf}
 use Rattle.pdu.specs.declared.filter.Verdict.{Verdict}
 use Rattle.pdu.specs.Filter.{verdictOf, verdictNumber, verdictValue}
+use Rattle.rules.specs.declared.state.Note.{Note}
+use Rattle.rules.specs.declared.state.Note.the-variants.{
+  Nothing,
+  NetworkMode,
+  NetworkStart,
+  PrepareBusSleep,
+  BusSleep,
+  Timeout,
+  RemoteSleepCancelled,
+  RemoteSleepIndication,
+}
+use Rattle.rules.specs.State.{stateNumber}
+use Rattle.rules.specs.Decision.{Call, disableCommunication, mainFunction, passiveStartUp, rxIndication}
+use Rattle.channel.specs.declared.state.Reply.{Reply}
+use Rattle.channel.specs.Channel.{initialised, replied}
+use Rattle.sleep.specs.Sleep.{after}
 
 pub record Case : Type 0 where
   pub got : List ℕ
@@ -37,11 +54,38 @@ decided v = verdictNumber v ∷ verdictValue v ∷ []
 abbrev pub judges : List ℕ → List ℕ → ℕ → Case
 judges mask pn keep = record { got = decided (verdictOf false 64 pn mask); wanted = 0 ∷ keep ∷ [] }
 
+-- after some calls on a freshly initialised channel, one more call gives this answer, state and notes
+abbrev pub noteNumber : Note → ℕ
+noteNumber Nothing = 0
+noteNumber NetworkMode = 1
+noteNumber NetworkStart = 2
+noteNumber PrepareBusSleep = 3
+noteNumber BusSleep = 4
+noteNumber Timeout = 5
+noteNumber RemoteSleepCancelled = 6
+noteNumber RemoteSleepIndication = 7
+
+abbrev numbers : Reply → List ℕ
+numbers r =
+    numberOf (r .answer) ∷ stateNumber (r .channel .own .mode .state) ∷ noteNumber (r .notes .first) ∷ noteNumber (r .notes .second) ∷ []
+
+abbrev pub gives : Config → List Call → Call → List ℕ → Case
+gives c before x wanted = record { got = numbers (replied (after (initialised c .channel) before) x); wanted = wanted }
+
+-- n ticks in which the driver takes a frame of eight bytes
+abbrev pub ticks : ℕ → List Call
+ticks zero = []
+ticks (suc n) = mainFunction true 8 ∷ ticks n
+
+-- a PDU of eight bytes without a bit
+abbrev pub silent : Call
+silent = rxIndication (0 ∷ 0 ∷ 0 ∷ 0 ∷ 0 ∷ 0 ∷ 0 ∷ 0 ∷ [])
+
 -- ---- configurations
 
 -- no PN; node 33 with its id in byte 0 and the control bit vector in byte 1 of eight; no immediate frames
-abbrev pub plain : ℕ → ℕ → ℕ → ℕ → ℕ → ℕ → Config
-plain period timeout wait repeat cycle offset =
+abbrev pub plain : Bool → ℕ → ℕ → ℕ → ℕ → ℕ → ℕ → Config
+plain passive period timeout wait repeat cycle offset =
     record {
       period = period;
       times =
@@ -57,7 +101,7 @@ plain period timeout wait repeat cycle offset =
           };
       immediate = 0;
       node = 33;
-      passive = false;
+      passive = passive;
       layout = record { length = 8; sni = 0; cbv = 1 };
       pn =
           record {
@@ -72,15 +116,26 @@ plain period timeout wait repeat cycle offset =
 
 -- ---- the table
 
+-- T = 4, W = 3 and R = 4 ticks
+abbrev pub four : Bool → Config
+four passive = plain passive 10 40 30 40 20 0
+
 abbrev pub table : List Case
 table =
     converts 20 1010 51
     ∷ converts 20 1000 50
     ∷ converts 20 1 1
     ∷ converts 20 0 0
-    ∷ breaks (plain 20 100 60 80 20 15) 3
+    ∷ breaks (plain false 20 100 60 80 20 15) 3
     ∷ judges (1 ∷ 151 ∷ []) (0 ∷ 104 ∷ []) 0
     ∷ judges (1 ∷ 151 ∷ []) (254 ∷ 104 ∷ []) 0
     ∷ judges (1 ∷ 151 ∷ []) (0 ∷ 128 ∷ []) 1
     ∷ judges (1 ∷ 151 ∷ []) (1 ∷ 0 ∷ []) 1
+    ∷ gives (four false) (passiveStartUp ∷ ticks 3) (mainFunction true 8) (0 ∷ 4 ∷ 5 ∷ 0 ∷ [])
+    ∷ gives (four false) (passiveStartUp ∷ ticks 7) (mainFunction true 8) (0 ∷ 1 ∷ 3 ∷ 0 ∷ [])
+    ∷ gives (four false) (passiveStartUp ∷ ticks 10) (mainFunction true 8) (0 ∷ 0 ∷ 4 ∷ 0 ∷ [])
+    ∷ gives (four false) [] silent (0 ∷ 0 ∷ 2 ∷ 0 ∷ [])
+    ∷ gives (four false) (passiveStartUp ∷ ticks 8) silent (0 ∷ 2 ∷ 1 ∷ 0 ∷ [])
+    ∷ gives (four false) (passiveStartUp ∷ []) passiveStartUp (3 ∷ 2 ∷ 0 ∷ 0 ∷ [])
+    ∷ gives (four true) [] disableCommunication (4 ∷ 0 ∷ 0 ∷ 0 ∷ [])
     ∷ []

@@ -8,3 +8,4 @@ pub mod Traffic
 pub mod Kept
 pub mod Whole
 pub mod Theorem
+pub mod Examples
