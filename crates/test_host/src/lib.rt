@@ -11,6 +11,8 @@ use pdu::pnc::PnRange;
 use pdu::pnc::PncNumber;
 use pdu::pnc::VectorBit;
 
+pub mod exchange;
+
 #[repr(C)]
 pub struct Composed {
     pub answer: u32,

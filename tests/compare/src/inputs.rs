@@ -59,7 +59,8 @@ pub const EDGES: [u64; 48] = [
 /// The number that stands for a header field that is off.
 pub const OFF: u64 = 255;
 
-const LONGEST: u64 = 65_535;
+/// The longest time, in milliseconds.
+pub const LONGEST: u64 = 65_535;
 
 // The places of the numbers of a configuration.
 pub const PERIOD: usize = 0;
@@ -130,7 +131,7 @@ impl Handed {
 }
 
 /// From `first` to `last`, both included; each of the two ends more often than the rest.
-fn between(rng: &mut Rng, first: u64, last: u64) -> u64 {
+pub fn between(rng: &mut Rng, first: u64, last: u64) -> u64 {
     match rng.below(8) {
         0 => first,
         1 => last,
@@ -140,7 +141,7 @@ fn between(rng: &mut Rng, first: u64, last: u64) -> u64 {
 }
 
 /// A time in milliseconds that lasts so many ticks.
-fn lasting(rng: &mut Rng, period: u64, ticks: u64) -> u64 {
+pub fn lasting(rng: &mut Rng, period: u64, ticks: u64) -> u64 {
     if ticks == 0 {
         return 0;
     }

@@ -4,18 +4,16 @@
 //! reached. Exit status 0: no difference, and every case reached; 1: otherwise, with the whole input of
 //! the first difference; 2: a bad argument.
 
-mod inputs;
-mod product;
 mod seen;
 
+use cannm_compare::inputs::{self, Handed};
+use cannm_compare::product::{self, Composed, Filter, Header, Place, Ticks};
 use cannm_reference::answer::{Answer, Refusal};
 use cannm_reference::config::{first_broken_rule, Config, Position};
 use cannm_reference::pdu::{self, Fields};
 use cannm_reference::pnc::{BitIndex, PncNumber};
 use cannm_reference::rng::Rng;
 use cannm_reference::{answer, host};
-use inputs::Handed;
-use product::{Composed, Filter, Header, Place, Ticks};
 use seen::{Kind, Seen};
 use std::fmt::Debug;
 use std::process::ExitCode;

@@ -2,6 +2,11 @@
 
 /// How many numbers a configuration is handed over as.
 pub const NUMBERS: usize = 20;
+/// How many numbers a whole channel is handed over as.
+pub const WORDS: usize = 177;
+
+/// A whole channel.
+pub type Words = [u64; WORDS];
 
 #[repr(C)]
 #[derive(Clone, Copy, Debug, PartialEq, Eq)]
@@ -41,8 +46,38 @@ pub struct Place {
     pub value: u32,
 }
 
+#[repr(C)]
+#[derive(Clone, Copy, Debug, PartialEq, Eq)]
+pub struct Begun {
+    pub answer: u32,
+    pub rule: u32,
+}
+
+/// The notes are numbers: 0 none, 1 NM, 2 ST, 3 PB, 4 BS, 5 TO, 6 RC, 7 RI.
+#[repr(C)]
+#[derive(Clone, Copy, Debug, PartialEq, Eq)]
+pub struct Called {
+    pub answer: u32,
+    pub rule: u32,
+    pub first: u32,
+    pub second: u32,
+    pub ei: u32,
+    pub er: u32,
+    pub sent: u32,
+}
+
+#[repr(C)]
+#[derive(Clone, Copy, Debug, PartialEq, Eq)]
+pub struct Shown {
+    pub answer: u32,
+    pub rule: u32,
+    pub state: u32,
+    pub count: u32,
+    pub lowest: u32,
+}
+
 mod raw {
-    use super::{Composed, Filter, Header, Place, Ticks};
+    use super::{Begun, Called, Composed, Filter, Header, Place, Shown, Ticks};
 
     extern "C" {
         // libcannm_c.a, as include/cannm.h declares them
@@ -98,6 +133,32 @@ mod raw {
         ) -> Header;
         pub fn test_pnc_number(start: u32, length: u32, bit: u32) -> Place;
         pub fn test_pnc_bit(start: u32, length: u32, number: u32) -> Place;
+        pub fn test_initialise(
+            numbers: *const u64,
+            numbers_length: usize,
+            mask: *const u8,
+            mask_length: usize,
+            words: *mut u64,
+            words_length: usize,
+        ) -> Begun;
+        pub fn test_call(
+            words: *mut u64,
+            words_length: usize,
+            call: u32,
+            flag: u32,
+            bytes: *const u8,
+            bytes_length: usize,
+            frame: *mut u8,
+            frame_length: usize,
+        ) -> Called;
+        pub fn test_status(
+            words: *const u64,
+            words_length: usize,
+            era: *mut u8,
+            era_length: usize,
+            eira: *mut u8,
+            eira_length: usize,
+        ) -> Shown;
     }
 }
 
@@ -201,4 +262,55 @@ pub fn pnc_number(start: u32, length: u32, bit: u32) -> Place {
 pub fn pnc_bit(start: u32, length: u32, number: u32) -> Place {
     // SAFETY: the function takes numbers alone.
     unsafe { raw::test_pnc_bit(start, length, number) }
+}
+
+/// Initialises a channel; what the words hold before is no part of the outcome.
+pub fn initialise(numbers: &[u64; NUMBERS], mask: &[u8]) -> (Begun, Words) {
+    let mut words = [u64::MAX; WORDS];
+    // SAFETY: each pointer is lent with the length of its slice, and the words alone are written.
+    let begun = unsafe {
+        raw::test_initialise(
+            numbers.as_ptr(),
+            numbers.len(),
+            mask.as_ptr(),
+            mask.len(),
+            words.as_mut_ptr(),
+            words.len(),
+        )
+    };
+    (begun, words)
+}
+
+/// Any call but status, by its number.
+pub fn call(words: &mut Words, call: u32, flag: bool, bytes: &[u8], frame: &mut [u8]) -> Called {
+    // SAFETY: each pointer is lent with the length of its slice, and only the words and the frame, which do
+    // not overlap, are written.
+    unsafe {
+        raw::test_call(
+            words.as_mut_ptr(),
+            words.len(),
+            call,
+            flag.into(),
+            bytes.as_ptr(),
+            bytes.len(),
+            frame.as_mut_ptr(),
+            frame.len(),
+        )
+    }
+}
+
+/// The status, with ERA and EIRA in the lent bytes.
+pub fn status(words: &Words, era: &mut [u8], eira: &mut [u8]) -> Shown {
+    // SAFETY: each pointer is lent with the length of its slice, and only the two vectors, which do not
+    // overlap, are written.
+    unsafe {
+        raw::test_status(
+            words.as_ptr(),
+            words.len(),
+            era.as_mut_ptr(),
+            era.len(),
+            eira.as_mut_ptr(),
+            eira.len(),
+        )
+    }
 }
