@@ -2,12 +2,13 @@
 use mathlib.Core.Path.{_≡_, refl, ap, sym, _∙_}
 use mathlib.Core.Bool.{Bool, true, false, _&&_, _||_, and-eq-true-iff, or-true, false≢true}
 use mathlib.Core.List.{List, [], _∷_}
-use mathlib.Core.Logic.{_⊎_, inl, inr, ⊎-elim}
+use mathlib.Core.Logic.{⊎-elim}
 use Prim.Native.Nat.{ℕ, zero, suc, _+_, _<_, _≤_}
 use native.Mathlib.Nat.{eq-or-lt-of-le, le-antisymm, add-zero, zero-add, add-suc, suc-add, le-of-suc-le-suc, not-suc-le-zero}
 use native.Mathlib.Numerals.{add-one}
 use native.Mathlib.Omega.{arith}
 use lib.ListN.{length, getD, set, length-set}
+use Rattle.choice.proofs.Tests.{or-cases}
 use Rattle.bits.specs.Lists.{mapFrom, allBelow, anyBelow, sumBelow}
 
 -- ---- mapFrom
@@ -134,11 +135,6 @@ any-ext p q (suc n) h = rw (any-ext p q n (λ k l. h k (omega arith)), h n (omeg
 pub any-at : (p : ℕ → Bool) (n k : ℕ) → k < n → p k ≡ true → anyBelow p n ≡ true
 any-at p zero k h e = absurd (not-suc-le-zero h)
 any-at p (suc n) k h e = ⊎-elim (λ q. rw (← q, e) (or-true (anyBelow p k))) (λ l. rw (any-at p n k l e)) (eq-or-lt-of-le (le-of-suc-le-suc h))
-
--- one of two tests holds
-or-cases : (a b : Bool) → a || b ≡ true → (a ≡ true) ⊎ (b ≡ true)
-or-cases true b e = inl refl
-or-cases false b e = inr e
 
 -- a test that is answered by true holds at some place
 pub any-some : (p : ℕ → Bool) (n : ℕ) → anyBelow p n ≡ true → (k : ℕ) × (k < n) × (p k ≡ true)

@@ -4,9 +4,9 @@
 // refuses the pair. Leaves to others: which time belongs to which parameter (`config`).
 ghost use mathlib.Core.Path.{_≡_};
 ghost use lib.Dec.{eqb, leb, ltb};
-ghost use Prim.Native.Nat.{_-_, _*_, _≤_, _<_};
+ghost use Prim.Native.Nat.{_-_, _*_, _≤_};
 ghost use mathlib.Core.Bool.{_&&_};
-ghost use Rattle.ticks.specs.Ticks.{conversionOf};
+ghost use Rattle.ticks.specs.Ticks.{conversionOf, periodMost, timeMost};
 
 // The period of the main function, in milliseconds: smallest and largest.
 pub const PERIOD_LEAST: u64 = 1;
@@ -43,7 +43,7 @@ pub fn to_ticks(period: u64, ms: u64) -> Conversion
 
 // Do `count` ticks, and no fewer, last `ms` milliseconds?
 fn covers(period: u64, ms: u64, count: u64) -> bool
-    requires { ⌜ (period ≤ 100) × (1 ≤ count) × (count < 65536) ⌝ }
+    requires { ⌜ (period ≤ periodMost) × (1 ≤ count) × (count ≤ timeMost) ⌝ }
     ensures { λ r. ⌜ r ≡ (leb ms (count * period) && ltb ((count - 1) * period) ms) ⌝ }
 {
     if ms <= count * period {

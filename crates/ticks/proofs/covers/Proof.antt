@@ -4,15 +4,16 @@ use native.Mathlib.Nat.{mul-le-mul-left}
 use native.Mathlib.Omega.{arith}
 use borrow.Author.Needs.{needs}
 use borrow.Author.Tests.{le-leb, lt-leb}
+use Rattle.ticks.specs.Ticks.{periodMost}
 use Rattle.ticks.proofs.covers.Statement.{statement}
 use Rattle.ticks.proofs.covers.Tie as tie
 
 mul-if1 : tie.Need-mul-if1
-mul-if1 c = let a = c .args in omega (arith, mul-le-mul-left {m = a .period} {n = 100} (a .count) (c .pre .0))
+mul-if1 c = let a = c .args in omega (arith, mul-le-mul-left {m = a .period} {n = periodMost} (a .count) (c .pre .0))
 
 mul-result : tie.Need-mul-result
 mul-result c =
-    let a = c .before .args in omega (arith, mul-le-mul-left {m = a .period} {n = 100} (a .count - 1) (c .before .pre .0))
+    let a = c .before .args in omega (arith, mul-le-mul-left {m = a .period} {n = periodMost} (a .count - 1) (c .before .pre .0))
 
 returns : tie.Need-returns
 returns c = rw (le-leb _ _ (c .if1 .taken))

@@ -23,7 +23,7 @@ returns-3 c = rw (le-leb _ _ (c .before .before .if1 .left), le-leb _ _ (c .befo
 cast-t7 : tie.Need-cast-t7
 cast-t7 c =
     let a = c .before .before .before .args in
-    record { fits = div-lt-iff-lt-mul {k = a .period} {x = a .ms + (a .period - 1)} {y = 65536} (omega arith) .1 (omega arith) }
+    record { fits = div-lt-iff-lt-mul {k = a .period} {y = 65536} (omega arith) .1 (omega arith) }
 
 returns-4 : tie.Need-returns-4
 unfolding conversionOf ticksOf
