@@ -33,8 +33,8 @@ use Rattle.config.specs.Rules.{
 }
 use Rattle.pdu.specs.Filter.{verdictOf, keeps}
 use Rattle.bits.specs.Timers.{allWithin, countedDown, loadedWhere, vectorsDiffer}
-use Rattle.rules.specs.Decision.{ruleAt, table}
-use Rattle.rules.specs.Mode.{
+use Rattle.decision.specs.Decision.{ruleAt, table}
+use Rattle.modes.specs.Mode.{
   enabled,
   enterNetwork,
   enterRepeat,
@@ -47,11 +47,11 @@ use Rattle.rules.specs.Mode.{
   restart,
   waitInPrepare,
 }
-use Rattle.rules.specs.Traffic.{counts, framing, inNormal, inReady, inRepeat, isDue, setupOf, toRepeat, trafficBy}
-use Rattle.rules.specs.Notes.{firstBy, secondBy}
-use Rattle.rules.specs.Sound.{configured, modeSound, passiveSound, scalarsSound, trafficSound}
-use Rattle.rules.specs.Heard.{accepted, asksRepeat, loadedBy, sentLoaded}
-use Rattle.rules.specs.Refusals.{refusal}
+use Rattle.traffic.specs.Traffic.{counts, framing, inNormal, inReady, inRepeat, isDue, setupOf, toRepeat, trafficBy}
+use Rattle.traffic.specs.Notes.{firstBy, secondBy}
+use Rattle.soundness.specs.Sound.{configured, modeSound, passiveSound, scalarsSound, trafficSound}
+use Rattle.frames.specs.Frames.{accepted, asksRepeat, loadedBy, sentLoaded}
+use Rattle.decision.specs.Refusals.{refusal}
 use Rattle.channel.specs.Channel.{
   againFor,
   answerOf,

@@ -13,8 +13,8 @@ use Rattle.config.specs.Rules.{firstBroken}
 use Rattle.answers.specs.Answers.{numberOf}
 use Rattle.pdu.specs.declared.filter.Verdict.{Verdict}
 use Rattle.pdu.specs.Filter.{verdictOf, verdictNumber, verdictValue}
-use Rattle.rules.specs.declared.state.Note.{Note}
-use Rattle.rules.specs.declared.state.Note.the-variants.{
+use Rattle.decision.specs.declared.state.Note.{Note}
+use Rattle.decision.specs.declared.state.Note.the-variants.{
   Nothing,
   NetworkMode,
   NetworkStart,
@@ -24,8 +24,8 @@ use Rattle.rules.specs.declared.state.Note.the-variants.{
   RemoteSleepCancelled,
   RemoteSleepIndication,
 }
-use Rattle.rules.specs.State.{stateNumber}
-use Rattle.rules.specs.Decision.{Call, disableCommunication, mainFunction, passiveStartUp, rxIndication}
+use Rattle.decision.specs.State.{stateNumber}
+use Rattle.decision.specs.Decision.{Call, disableCommunication, mainFunction, passiveStartUp, rxIndication}
 use Rattle.channel.specs.declared.state.Reply.{Reply}
 use Rattle.channel.specs.Channel.{initialised, replied}
 use Rattle.sleep.specs.Sleep.{after}

@@ -3,7 +3,7 @@ use mathlib.Core.Path.{_≡_}
 use mathlib.Core.Bool.{Bool, true}
 use Rattle.bits.proofs.Timers.{differs-not}
 use Rattle.channel.specs.declared.state.Channel.{Channel}
-use Rattle.rules.specs.Decision.{
+use Rattle.decision.specs.Decision.{
   Call,
   networkRequest,
   networkRelease,
@@ -20,7 +20,7 @@ use Rattle.rules.specs.Decision.{
   mainFunction,
   callNumber,
 }
-use Rattle.rules.specs.Refusals.{refusal, refusedPassive, refusedPnOff}
+use Rattle.decision.specs.Refusals.{refusal, refusedPassive, refusedPnOff}
 use Rattle.channel.specs.Channel.{
   againFor,
   answerOf,

@@ -16,21 +16,21 @@ use Rattle.config.specs.declared.Config.{Config}
 use Rattle.config.specs.declared.Ticks.{Ticks}
 use Rattle.config.specs.Ranges.{userLengthOf}
 use Rattle.config.specs.Rules.{firstBroken, ticksFor}
-use Rattle.rules.specs.declared.state.State.the-variants.{BusSleep}
-use Rattle.rules.specs.declared.state.Mode.{Mode}
-use Rattle.rules.specs.declared.state.Traffic.{Traffic}
+use Rattle.decision.specs.declared.state.State.the-variants.{BusSleep}
+use Rattle.decision.specs.declared.state.Mode.{Mode}
+use Rattle.decision.specs.declared.state.Traffic.{Traffic}
 use Rattle.channel.specs.declared.state.Own.{Own}
 use Rattle.channel.specs.declared.state.Channel.{Channel}
 use Rattle.channel.specs.declared.state.Notes.{Notes}
-use Rattle.rules.specs.declared.state.Note.{Note}
-use Rattle.rules.specs.declared.state.Note.the-variants.{Nothing}
+use Rattle.decision.specs.declared.state.Note.{Note}
+use Rattle.decision.specs.declared.state.Note.the-variants.{Nothing}
 use Rattle.channel.specs.declared.state.Reply.{Reply}
 use Rattle.channel.specs.declared.state.Started.{Started}
 use Rattle.channel.specs.declared.state.Status.{Status}
-use Rattle.rules.specs.State.{stateNumber}
-use Rattle.rules.specs.declared.decision.Rule
-use Rattle.rules.specs.declared.decision.Rule.the-variants.{Keep}
-use Rattle.rules.specs.Decision.{
+use Rattle.decision.specs.State.{stateNumber}
+use Rattle.decision.specs.declared.Rule
+use Rattle.decision.specs.declared.Rule.the-variants.{Keep}
+use Rattle.decision.specs.Decision.{
   Call,
   networkRequest,
   networkRelease,
@@ -48,12 +48,12 @@ use Rattle.rules.specs.Decision.{
   callNumber,
   ruleOf,
 }
-use Rattle.rules.specs.Mode.{mode, modeBy}
-use Rattle.rules.specs.Traffic.{traffic, trafficBy, setupOf, framing, isDue}
-use Rattle.rules.specs.Notes.{firstBy, secondBy}
-use Rattle.rules.specs.Sound.{scalarsSound, timersSound}
-use Rattle.rules.specs.Heard.{accepted, asksRepeat, framed, loadedBy, sentLoaded}
-use Rattle.rules.specs.Refusals.{refusal, isDone, judged}
+use Rattle.modes.specs.Mode.{mode, modeBy}
+use Rattle.traffic.specs.Traffic.{traffic, trafficBy, setupOf, framing, isDue}
+use Rattle.traffic.specs.Notes.{firstBy, secondBy}
+use Rattle.soundness.specs.Sound.{scalarsSound, timersSound}
+use Rattle.frames.specs.Frames.{accepted, asksRepeat, framed, loadedBy, sentLoaded}
+use Rattle.decision.specs.Refusals.{refusal, isDone, judged}
 
 abbrev pub notes : Note → Note → Bool → Bool → Notes
 notes first second ei er = record { first = first; second = second; eira = ei; era = er }

@@ -4,15 +4,15 @@ use mathlib.Core.Bool.{Bool, false, cond}
 use Rattle.answers.specs.declared.Answer.{Answer}
 use Rattle.answers.specs.declared.Answer.the-variants.{Done}
 use Rattle.channel.specs.declared.state.Channel.{Channel}
-use Rattle.rules.specs.declared.state.Note.{Note}
+use Rattle.decision.specs.declared.state.Note.{Note}
 use Rattle.channel.specs.declared.state.Reply.{Reply}
-use Rattle.rules.specs.declared.decision.Rule.{Rule}
-use Rattle.rules.specs.Mode.{modeBy}
-use Rattle.rules.specs.Traffic.{trafficBy, setupOf}
-use Rattle.rules.specs.Notes.{firstBy, secondBy}
-use Rattle.rules.specs.declared.decision.Rule.the-variants.{Keep}
-use Rattle.rules.specs.Decision.{isNotHere, ruleOf}
-use Rattle.rules.specs.Refusals.{firstOf, isDone, judged}
+use Rattle.decision.specs.declared.Rule.{Rule}
+use Rattle.modes.specs.Mode.{modeBy}
+use Rattle.traffic.specs.Traffic.{trafficBy, setupOf}
+use Rattle.traffic.specs.Notes.{firstBy, secondBy}
+use Rattle.decision.specs.declared.Rule.the-variants.{Keep}
+use Rattle.decision.specs.Decision.{isNotHere, ruleOf}
+use Rattle.decision.specs.Refusals.{firstOf, isDone, judged}
 use Rattle.channel.specs.Channel.{notes, refused, sound}
 
 -- moved by a rule; ei and er say whether the vectors changed

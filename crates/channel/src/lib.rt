@@ -10,12 +10,12 @@ use config::Layout;
 use config::Partial;
 use config::Ticks;
 use config::Times;
+use decision::Rule;
+use decision::state::Mode;
+use decision::state::Note;
+use decision::state::State;
+use decision::state::Traffic;
 use pdu::pnc::VectorBit;
-use rules::decision::Rule;
-use rules::state::Mode;
-use rules::state::Note;
-use rules::state::State;
-use rules::state::Traffic;
 use state::Channel;
 use state::Notes;
 use state::Own;
@@ -24,9 +24,9 @@ use state::Started;
 use state::Status;
 ghost use mathlib.Core.Path.{_≡_};
 ghost use mathlib.Core.Bool.{false, true, cond};
-ghost use Rattle.rules.specs.declared.decision.Rule.the-variants.{Keep};
+ghost use Rattle.decision.specs.declared.Rule.the-variants.{Keep};
 ghost use Rattle.bits.specs.Bits.{countOnes, lowestIn};
-ghost use Rattle.rules.specs.Decision.{
+ghost use Rattle.decision.specs.Decision.{
   confirmPnAvailability,
   disableCommunication,
   enableCommunication,
@@ -39,7 +39,7 @@ ghost use Rattle.rules.specs.Decision.{
   setUserData,
   txConfirmation,
 };
-ghost use Rattle.rules.specs.Refusals.{firstOf, isDone, judged};
+ghost use Rattle.decision.specs.Refusals.{firstOf, isDone, judged};
 ghost use Rattle.channel.specs.Channel.{
   fresh,
   freshMode,
@@ -123,11 +123,11 @@ fn moved(mut ch: Channel, rule: Rule, again: bool, ei: bool, er: bool) -> Reply
 {
     let before = ch.own.mode;
     let old = ch.own.traffic;
-    let after = rules::mode::mode_by(rule, again, ch.own.ticks, before);
-    let s = rules::traffic::setup_of(ch.own.config, ch.own.ticks);
-    let new = rules::traffic::traffic_by(rule, again, s, before, after, old);
-    let first = rules::notes::first_by(rule, before, after);
-    let second = rules::notes::second_by(rule, before, old);
+    let after = modes::mode_by(rule, again, ch.own.ticks, before);
+    let s = traffic::setup_of(ch.own.config, ch.own.ticks);
+    let new = traffic::traffic_by(rule, again, s, before, after, old);
+    let first = traffic::notes::first_by(rule, before, after);
+    let second = traffic::notes::second_by(rule, before, old);
     let mut own = ch.own;
     own.mode = after;
     own.traffic = new;
@@ -185,7 +185,7 @@ fn plain(ch: Channel, call: u8, passive: bool, off: bool, heeded: bool) -> Reply
 {
     let m = ch.own.mode;
     let state = m.state;
-    let ok = rules::sound::sound(
+    let ok = soundness::sound(
         ch.own.config,
         ch.own.ticks,
         m,
@@ -193,8 +193,8 @@ fn plain(ch: Channel, call: u8, passive: bool, off: bool, heeded: bool) -> Reply
         &ch.own.era,
         &ch.eira,
     );
-    let rule = rules::decision::rule_of(state, call);
-    let a = judge(ok, passive, off, rules::decision::is_not_here(rule), false);
+    let rule = decision::rule_of(state, call);
+    let a = judge(ok, passive, off, decision::is_not_here(rule), false);
     finish(ch, a, heed(heeded, rule), false)
 }
 
@@ -398,7 +398,7 @@ impl Channel {
         let c = self.own.config;
         let m = self.own.mode;
         let state = m.state;
-        let ok = rules::sound::sound(
+        let ok = soundness::sound(
             c,
             self.own.ticks,
             m,
@@ -406,10 +406,7 @@ impl Channel {
             &self.own.era,
             &self.eira,
         );
-        let elsewhere = rules::decision::is_not_here(rules::decision::rule_of(
-            state,
-            rules::decision::STATUS,
-        ));
+        let elsewhere = decision::is_not_here(decision::rule_of(state, decision::STATUS));
         let a = judge(ok, false, false, elsewhere, false);
         if is_done(a) {
             let era = vector_of(&self.own.era);
@@ -418,7 +415,7 @@ impl Channel {
             let lowest = lowest_of(c, &eira);
             return Status {
                 answer: Answer::Done,
-                state: rules::decision::state_number(state),
+                state: decision::state_number(state),
                 era: era,
                 eira: eira,
                 count: count,
@@ -434,7 +431,7 @@ impl Channel {
     {
         plain(
             self,
-            rules::decision::NETWORK_REQUEST,
+            decision::NETWORK_REQUEST,
             self.own.config.passive,
             false,
             true,
@@ -447,7 +444,7 @@ impl Channel {
     {
         plain(
             self,
-            rules::decision::NETWORK_RELEASE,
+            decision::NETWORK_RELEASE,
             self.own.config.passive,
             false,
             true,
@@ -458,7 +455,7 @@ impl Channel {
     pub fn passive_start_up(self) -> Reply
         ensures { λ r. ⌜ r ≡ replied self passiveStartUp ⌝ }
     {
-        plain(self, rules::decision::PASSIVE_START_UP, false, false, true)
+        plain(self, decision::PASSIVE_START_UP, false, false, true)
     }
 
     // The host asks all nodes to announce themselves.
@@ -467,7 +464,7 @@ impl Channel {
     {
         plain(
             self,
-            rules::decision::REPEAT_MESSAGE_REQUEST,
+            decision::REPEAT_MESSAGE_REQUEST,
             self.own.config.passive,
             false,
             true,
@@ -479,7 +476,7 @@ impl Channel {
     {
         plain(
             self,
-            rules::decision::DISABLE_COMMUNICATION,
+            decision::DISABLE_COMMUNICATION,
             self.own.config.passive,
             false,
             true,
@@ -491,7 +488,7 @@ impl Channel {
     {
         plain(
             self,
-            rules::decision::ENABLE_COMMUNICATION,
+            decision::ENABLE_COMMUNICATION,
             self.own.config.passive,
             false,
             true,
@@ -504,7 +501,7 @@ impl Channel {
     {
         plain(
             self,
-            rules::decision::TX_CONFIRMATION,
+            decision::TX_CONFIRMATION,
             self.own.config.passive,
             false,
             good,
@@ -516,13 +513,7 @@ impl Channel {
         ensures { λ r. ⌜ r ≡ replied self confirmPnAvailability ⌝ }
     {
         let off = choice::negation(self.own.config.pn.on);
-        plain(
-            self,
-            rules::decision::CONFIRM_PN_AVAILABILITY,
-            false,
-            off,
-            true,
-        )
+        plain(self, decision::CONFIRM_PN_AVAILABILITY, false, off, true)
     }
 
     // A PDU was received.
@@ -533,15 +524,15 @@ impl Channel {
         let t = self.own.ticks;
         let m = self.own.mode;
         let state = m.state;
-        let ok = rules::sound::sound(c, t, m, self.own.traffic, &self.own.era, &self.eira);
-        let rule = rules::decision::rule_of(state, rules::decision::RX_INDICATION);
+        let ok = soundness::sound(c, t, m, self.own.traffic, &self.own.era, &self.eira);
+        let rule = decision::rule_of(state, decision::RX_INDICATION);
         let size = choice::negation(pdu.len() as u64 == c.layout.length);
-        let a = judge(ok, false, false, rules::decision::is_not_here(rule), size);
+        let a = judge(ok, false, false, decision::is_not_here(rule), size);
         if is_done(a) {
-            if rules::heard::accepted(c, m.filter, pdu) {
-                let again = rules::heard::asks_repeat(c, pdu);
-                let er = rules::heard::load_heard(c, t.reset, pdu, &mut self.own.era);
-                let ei = rules::heard::load_heard(c, t.reset, pdu, &mut self.eira);
+            if frames::accepted(c, m.filter, pdu) {
+                let again = frames::asks_repeat(c, pdu);
+                let er = frames::load_heard(c, t.reset, pdu, &mut self.own.era);
+                let ei = frames::load_heard(c, t.reset, pdu, &mut self.eira);
                 return moved(self, rule, again, ei, er);
             }
             return moved(self, Rule::Keep, false, false, false);
@@ -556,7 +547,7 @@ impl Channel {
         let c = self.own.config;
         let m = self.own.mode;
         let state = m.state;
-        let ok = rules::sound::sound(
+        let ok = soundness::sound(
             c,
             self.own.ticks,
             m,
@@ -564,17 +555,11 @@ impl Channel {
             &self.own.era,
             &self.eira,
         );
-        let rule = rules::decision::rule_of(state, rules::decision::SET_USER_DATA);
+        let rule = decision::rule_of(state, decision::SET_USER_DATA);
         let size = choice::negation(bytes.len() as u64 == config::user_length(c));
-        let a = judge(
-            ok,
-            c.passive,
-            false,
-            rules::decision::is_not_here(rule),
-            size,
-        );
+        let a = judge(ok, c.passive, false, decision::is_not_here(rule), size);
         if is_done(a) {
-            rules::heard::store(bytes, &mut self.own.user);
+            frames::store(bytes, &mut self.own.user);
             return moved(self, rule, false, false, false);
         }
         refused(self, a)
@@ -587,7 +572,7 @@ impl Channel {
         let c = self.own.config;
         let m = self.own.mode;
         let state = m.state;
-        let ok = rules::sound::sound(
+        let ok = soundness::sound(
             c,
             self.own.ticks,
             m,
@@ -595,12 +580,12 @@ impl Channel {
             &self.own.era,
             &self.eira,
         );
-        let rule = rules::decision::rule_of(state, rules::decision::SET_PN_REQUESTS);
+        let rule = decision::rule_of(state, decision::SET_PN_REQUESTS);
         let off = choice::negation(c.pn.on);
         let size = choice::negation(bytes.len() as u64 == c.pn.length);
-        let a = judge(ok, c.passive, off, rules::decision::is_not_here(rule), size);
+        let a = judge(ok, c.passive, off, decision::is_not_here(rule), size);
         if is_done(a) {
-            rules::heard::store(bytes, &mut self.own.requests);
+            frames::store(bytes, &mut self.own.requests);
             return moved(self, rule, false, false, false);
         }
         refused(self, a)
@@ -615,34 +600,34 @@ impl Channel {
         let m = self.own.mode;
         let old = self.own.traffic;
         let state = m.state;
-        let ok = rules::sound::sound(c, t, m, old, &self.own.era, &self.eira);
-        let rule = rules::decision::rule_of(state, rules::decision::MAIN_FUNCTION);
+        let ok = soundness::sound(c, t, m, old, &self.own.era, &self.eira);
+        let rule = decision::rule_of(state, decision::MAIN_FUNCTION);
         let size = choice::negation(c.layout.length <= frame.len() as u64);
-        let a = judge(ok, false, false, rules::decision::is_not_here(rule), size);
+        let a = judge(ok, false, false, decision::is_not_here(rule), size);
         if is_done(a) {
             // Steps a to d.
-            let after = rules::mode::mode_by(rule, false, t, m);
-            let s = rules::traffic::setup_of(c, t);
-            let x = rules::traffic::traffic_by(rule, false, s, m, after, old);
-            let first = rules::notes::first_by(rule, m, after);
-            let second = rules::notes::second_by(rule, m, old);
+            let after = modes::mode_by(rule, false, t, m);
+            let s = traffic::setup_of(c, t);
+            let x = traffic::traffic_by(rule, false, s, m, after, old);
+            let first = traffic::notes::first_by(rule, m, after);
+            let second = traffic::notes::second_by(rule, m, old);
             // Step f without its frame, which no table and no byte of the channel depends on.
-            let sent = choice::both(taken, rules::traffic::is_due(s, after, x));
-            let y = rules::traffic::framing(s, after, taken, x);
+            let sent = choice::both(taken, traffic::is_due(s, after, x));
+            let y = traffic::framing(s, after, taken, x);
             let mut own = self.own;
             own.mode = after;
             own.traffic = y;
             self.own = own;
             // Step e, and what a sent frame loads.
-            let er = rules::heard::count_down(&mut self.own.era);
+            let er = frames::count_down(&mut self.own.era);
             if sent {
                 let requests = self.own.requests;
                 let user = self.own.user;
-                let ei = rules::heard::load_sent(c, t.reset, &requests, &mut self.eira);
-                rules::heard::send(c, x, &requests, &user, frame);
+                let ei = frames::load_sent(c, t.reset, &requests, &mut self.eira);
+                frames::send(c, x, &requests, &user, frame);
                 return told(self, first, second, ei, er, true);
             }
-            let ei = rules::heard::count_down(&mut self.eira);
+            let ei = frames::count_down(&mut self.eira);
             return told(self, first, second, ei, er, false);
         }
         refused(self, a)

@@ -2,9 +2,9 @@
 use answers::Answer;
 use config::Config;
 use config::Ticks;
-use rules::state::Mode;
-use rules::state::Note;
-use rules::state::Traffic;
+use decision::state::Mode;
+use decision::state::Note;
+use decision::state::Traffic;
 
 // A channel without EIRA, whose timers are the only part that no rule of the channel reads.
 pub struct Own {

@@ -10,17 +10,17 @@ use lib.Dec.{ltb, eqb}
 use borrow.Author.Tests.{lt-ltb, le-ltb}
 use Rattle.config.specs.declared.Config.{Config}
 use Rattle.config.specs.declared.Ticks.{Ticks}
-use Rattle.rules.specs.declared.state.State.{State}
-use Rattle.rules.specs.declared.state.State.the-variants.{
+use Rattle.decision.specs.declared.state.State.{State}
+use Rattle.decision.specs.declared.state.State.the-variants.{
   BusSleep,
   PrepareBusSleep,
   RepeatMessage,
   NormalOperation,
   ReadySleep,
 }
-use Rattle.rules.specs.declared.state.Mode.{Mode}
-use Rattle.rules.specs.State.{transmits}
-use Rattle.rules.specs.Decision.{
+use Rattle.decision.specs.declared.state.Mode.{Mode}
+use Rattle.decision.specs.State.{transmits}
+use Rattle.decision.specs.Decision.{
   Call,
   networkRequest,
   networkRelease,
@@ -36,9 +36,9 @@ use Rattle.rules.specs.Decision.{
   status,
   mainFunction,
 }
-use Rattle.rules.specs.Mode.{mode}
-use Rattle.rules.specs.Heard.{accepted}
-use Rattle.rules.specs.Refusals.{refusal, refusedPassive, refusedPnOff, refusedState, refusedLength, firstOf, isDone}
+use Rattle.modes.specs.Mode.{mode}
+use Rattle.frames.specs.Frames.{accepted}
+use Rattle.decision.specs.Refusals.{refusal, refusedPassive, refusedPnOff, refusedState, refusedLength, firstOf, isDone}
 use Rattle.channel.specs.Channel.{freshMode, isTick, modeAfter}
 use Rattle.sleep.specs.Summary.{
   Since,

@@ -25,9 +25,9 @@ use Rattle.config.specs.Rules.{
   ticksFor,
   timesWithin,
 }
-use Rattle.rules.specs.declared.state.State.{State}
-use Rattle.rules.specs.declared.state.State.the-variants.{BusSleep, PrepareBusSleep, NormalOperation, ReadySleep}
-use Rattle.rules.specs.Decision.{
+use Rattle.decision.specs.declared.state.State.{State}
+use Rattle.decision.specs.declared.state.State.the-variants.{BusSleep, PrepareBusSleep, NormalOperation, ReadySleep}
+use Rattle.decision.specs.Decision.{
   Call,
   disableCommunication,
   enableCommunication,
@@ -37,7 +37,7 @@ use Rattle.rules.specs.Decision.{
   ruleAt,
   table,
 }
-use Rattle.rules.specs.Mode.{
+use Rattle.modes.specs.Mode.{
   enabled,
   enterNetwork,
   enterRepeat,
@@ -48,7 +48,7 @@ use Rattle.rules.specs.Mode.{
   repeatInRepeat,
   waitInPrepare,
 }
-use Rattle.rules.specs.Refusals.{refusal}
+use Rattle.decision.specs.Refusals.{refusal}
 use Rattle.channel.specs.Channel.{againFor, freshMode, modeAfter, ruleFor}
 use Rattle.sleep.specs.Summary.{Since, ago, blank, history, shown, summarised, turned}
 use Rattle.sleep.specs.Sleep.{reached}

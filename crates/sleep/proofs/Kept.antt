@@ -8,18 +8,18 @@ use lib.Dec.{leb, eqb}
 use borrow.Author.Tests.{lt-leb, ne-eqb}
 use Rattle.config.specs.declared.Config.{Config}
 use Rattle.config.specs.declared.Ticks.{Ticks}
-use Rattle.rules.specs.declared.state.State.{State}
-use Rattle.rules.specs.declared.state.State.the-variants.{
+use Rattle.decision.specs.declared.state.State.{State}
+use Rattle.decision.specs.declared.state.State.the-variants.{
   BusSleep,
   PrepareBusSleep,
   RepeatMessage,
   NormalOperation,
   ReadySleep,
 }
-use Rattle.rules.specs.declared.state.Mode.{Mode}
-use Rattle.rules.specs.declared.state.Traffic.{Traffic}
-use Rattle.rules.specs.declared.traffic.Setup.{Setup}
-use Rattle.rules.specs.Decision.{
+use Rattle.decision.specs.declared.state.Mode.{Mode}
+use Rattle.decision.specs.declared.state.Traffic.{Traffic}
+use Rattle.traffic.specs.declared.Setup.{Setup}
+use Rattle.decision.specs.Decision.{
   Call,
   networkRequest,
   networkRelease,
@@ -38,7 +38,7 @@ use Rattle.rules.specs.Decision.{
   ruleAt,
   table,
 }
-use Rattle.rules.specs.Mode.{
+use Rattle.modes.specs.Mode.{
   mode,
   modeBy,
   enterNetwork,
@@ -52,9 +52,9 @@ use Rattle.rules.specs.Mode.{
   waitInPrepare,
   repeatInRepeat,
 }
-use Rattle.rules.specs.Traffic.{inReady, inRepeat, setupOf, trafficBy}
-use Rattle.rules.specs.Heard.{accepted, asksRepeat}
-use Rattle.rules.specs.Refusals.{refusedPassive, refusedState}
+use Rattle.traffic.specs.Traffic.{inReady, inRepeat, setupOf, trafficBy}
+use Rattle.frames.specs.Frames.{accepted, asksRepeat}
+use Rattle.decision.specs.Refusals.{refusedPassive, refusedState}
 use Rattle.channel.specs.Channel.{againFor, modeAfter, ruleFor}
 use Rattle.sleep.specs.Summary.{Since, none, ago, Summary, networkState}
 use Rattle.sleep.proofs.Simulation.{Fit, Together, asleep, waiting, live, held, clash}

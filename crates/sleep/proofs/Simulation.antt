@@ -9,17 +9,17 @@ use borrow.Author.Tests.{lt-ltb, le-ltb, eq-eqb, ne-eqb, lt-leb, le-leb}
 use Rattle.answers.specs.declared.Answer.{Answer}
 use Rattle.config.specs.declared.Config.{Config}
 use Rattle.config.specs.declared.Ticks.{Ticks}
-use Rattle.rules.specs.declared.state.State.{State}
-use Rattle.rules.specs.declared.state.State.the-variants.{
+use Rattle.decision.specs.declared.state.State.{State}
+use Rattle.decision.specs.declared.state.State.the-variants.{
   BusSleep,
   PrepareBusSleep,
   RepeatMessage,
   NormalOperation,
   ReadySleep,
 }
-use Rattle.rules.specs.declared.state.Mode.{Mode}
-use Rattle.rules.specs.State.{inNetwork, isPrepare, settled, transmits}
-use Rattle.rules.specs.Decision.{
+use Rattle.decision.specs.declared.state.Mode.{Mode}
+use Rattle.decision.specs.State.{inNetwork, isPrepare, settled, transmits}
+use Rattle.decision.specs.Decision.{
   Call,
   networkRequest,
   networkRelease,
@@ -39,7 +39,7 @@ use Rattle.rules.specs.Decision.{
   ruleOf,
   table,
 }
-use Rattle.rules.specs.Mode.{
+use Rattle.modes.specs.Mode.{
   mode,
   modeBy,
   enterNetwork,
@@ -53,8 +53,8 @@ use Rattle.rules.specs.Mode.{
   waitInPrepare,
   repeatInRepeat,
 }
-use Rattle.rules.specs.Heard.{accepted, asksRepeat}
-use Rattle.rules.specs.Refusals.{refusal, refusedPassive, refusedPnOff, refusedState, refusedLength, firstOf, isDone}
+use Rattle.frames.specs.Frames.{accepted, asksRepeat}
+use Rattle.decision.specs.Refusals.{refusal, refusedPassive, refusedPnOff, refusedState, refusedLength, firstOf, isDone}
 use Rattle.channel.specs.Channel.{againFor, isTick, modeAfter, ruleFor}
 use Rattle.sleep.specs.Summary.{
   Since,

@@ -14,10 +14,10 @@ use Rattle.config.specs.declared.Config.{Config}
 use Rattle.config.specs.declared.Ticks.{Ticks}
 use Rattle.config.specs.Rules.{firstBroken, ticksFor}
 use Rattle.config.proofs.Passes.{passes}
-use Rattle.rules.specs.declared.state.State.the-variants.{BusSleep}
-use Rattle.rules.specs.declared.state.Mode.{Mode}
-use Rattle.rules.specs.Decision.{Call}
-use Rattle.rules.specs.Traffic.{setupOf}
+use Rattle.decision.specs.declared.state.State.the-variants.{BusSleep}
+use Rattle.decision.specs.declared.state.Mode.{Mode}
+use Rattle.decision.specs.Decision.{Call}
+use Rattle.traffic.specs.Traffic.{setupOf}
 use Rattle.channel.specs.declared.state.Channel.{Channel}
 use Rattle.channel.specs.Channel.{fresh, freshMode, freshTraffic, replied, sound}
 use Rattle.sleep.specs.Summary.{none, Summary, blank, summarised, history}

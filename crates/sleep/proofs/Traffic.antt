@@ -6,20 +6,20 @@ use mathlib.Core.Bool.{Bool, true, false, cond, not, _&&_, _||_}
 use native.Mathlib.Omega.{arith}
 use lib.Dec.{leb, ltb, eqb}
 use borrow.Author.Tests.{leb-true, leb-false, ltb-true, ltb-false, le-leb, eq-eqb}
-use Rattle.rules.specs.declared.state.State.{State}
-use Rattle.rules.specs.declared.state.State.the-variants.{
+use Rattle.decision.specs.declared.state.State.{State}
+use Rattle.decision.specs.declared.state.State.the-variants.{
   BusSleep,
   PrepareBusSleep,
   RepeatMessage,
   NormalOperation,
   ReadySleep,
 }
-use Rattle.rules.specs.declared.state.Mode.{Mode}
-use Rattle.rules.specs.declared.state.Traffic.{Traffic}
-use Rattle.rules.specs.declared.traffic.Setup.{Setup}
-use Rattle.rules.specs.State.{inNetwork, isNormal, isRepeat, settled, transmits}
-use Rattle.rules.specs.Sound.{larger, only, passiveSound, runs, trafficSound}
-use Rattle.rules.specs.Traffic.{
+use Rattle.decision.specs.declared.state.Mode.{Mode}
+use Rattle.decision.specs.declared.state.Traffic.{Traffic}
+use Rattle.traffic.specs.declared.Setup.{Setup}
+use Rattle.decision.specs.State.{inNetwork, isNormal, isRepeat, settled, transmits}
+use Rattle.soundness.specs.Sound.{larger, only, passiveSound, runs, trafficSound}
+use Rattle.traffic.specs.Traffic.{
   afterMissed,
   afterSent,
   counts,

@@ -15,19 +15,19 @@ use Rattle.config.specs.declared.Ticks.{Ticks}
 use Rattle.config.specs.Rules.{firstBroken, ticksFor}
 use Rattle.config.proofs.Passes.{Passes, passes}
 use Rattle.pdu.specs.Filter.{informs}
-use Rattle.rules.specs.declared.state.State.{State}
-use Rattle.rules.specs.declared.state.State.the-variants.{
+use Rattle.decision.specs.declared.state.State.{State}
+use Rattle.decision.specs.declared.state.State.the-variants.{
   BusSleep,
   PrepareBusSleep,
   RepeatMessage,
   NormalOperation,
   ReadySleep,
 }
-use Rattle.rules.specs.declared.state.Mode.{Mode}
-use Rattle.rules.specs.declared.state.Traffic.{Traffic}
-use Rattle.rules.specs.declared.traffic.Setup.{Setup}
-use Rattle.rules.specs.State.{inNetwork, isNormal, isRepeat, settled}
-use Rattle.rules.specs.Decision.{
+use Rattle.decision.specs.declared.state.Mode.{Mode}
+use Rattle.decision.specs.declared.state.Traffic.{Traffic}
+use Rattle.traffic.specs.declared.Setup.{Setup}
+use Rattle.decision.specs.State.{inNetwork, isNormal, isRepeat, settled}
+use Rattle.decision.specs.Decision.{
   Call,
   networkRequest,
   networkRelease,
@@ -43,11 +43,11 @@ use Rattle.rules.specs.Decision.{
   status,
   mainFunction,
 }
-use Rattle.rules.specs.Mode.{mode}
-use Rattle.rules.specs.Traffic.{framing, setupOf}
-use Rattle.rules.specs.Sound.{configured, modeSound, only, passiveSound, sameTicks, scalarsSound, timersSound}
-use Rattle.rules.specs.Heard.{accepted, cbvOf, loadedBy, pnOf, sentLoaded}
-use Rattle.rules.specs.Refusals.{refusal, refusedPassive, isDone}
+use Rattle.modes.specs.Mode.{mode}
+use Rattle.traffic.specs.Traffic.{framing, setupOf}
+use Rattle.soundness.specs.Sound.{configured, modeSound, only, passiveSound, sameTicks, scalarsSound, timersSound}
+use Rattle.frames.specs.Frames.{accepted, cbvOf, loadedBy, pnOf, sentLoaded}
+use Rattle.decision.specs.Refusals.{refusal, refusedPassive, isDone}
 use Rattle.channel.specs.declared.state.Own.{Own}
 use Rattle.channel.specs.declared.state.Channel.{Channel}
 use Rattle.channel.specs.Channel.{

@@ -5,7 +5,7 @@ use mathlib.Core.Bool.{Bool, true, false, cond, _&&_}
 use mathlib.Core.List.{List, [], _∷_}
 use Rattle.config.specs.declared.Config.{Config}
 use Rattle.config.specs.declared.Ticks.{Ticks}
-use Rattle.rules.specs.Decision.{
+use Rattle.decision.specs.Decision.{
   Call,
   networkRequest,
   networkRelease,
@@ -21,8 +21,8 @@ use Rattle.rules.specs.Decision.{
   status,
   mainFunction,
 }
-use Rattle.rules.specs.Heard.{accepted}
-use Rattle.rules.specs.Refusals.{refusal, isDone}
+use Rattle.frames.specs.Frames.{accepted}
+use Rattle.decision.specs.Refusals.{refusal, isDone}
 use Rattle.channel.specs.Channel.{isTick}
 use Rattle.sleep.specs.Summary.{Summary, keepsAwake, shown, summarised}
 

@@ -9,9 +9,9 @@ use mathlib.Core.Logic.{_↔_}
 use Rattle.config.specs.declared.Config.{Config}
 use Rattle.config.specs.declared.Ticks.{Ticks}
 use Rattle.config.specs.Rules.{firstBroken, ticksFor}
-use Rattle.rules.specs.declared.state.State.the-variants.{BusSleep}
-use Rattle.rules.specs.declared.state.Mode.{Mode}
-use Rattle.rules.specs.Decision.{Call}
+use Rattle.decision.specs.declared.state.State.the-variants.{BusSleep}
+use Rattle.decision.specs.declared.state.Mode.{Mode}
+use Rattle.decision.specs.Decision.{Call}
 use Rattle.channel.specs.declared.state.Channel.{Channel}
 use Rattle.channel.specs.Channel.{fresh, isTick, replied, sound}
 use Rattle.sleep.specs.Summary.{Since, none, ago, Summary, blank, shown, summarised, history}

@@ -6,16 +6,16 @@ use mathlib.Core.List.{List, [], _∷_}
 use lib.Dec.{ltb, eqb}
 use Rattle.config.specs.declared.Config.{Config}
 use Rattle.config.specs.declared.Ticks.{Ticks}
-use Rattle.rules.specs.declared.state.State.{State}
-use Rattle.rules.specs.declared.state.State.the-variants.{
+use Rattle.decision.specs.declared.state.State.{State}
+use Rattle.decision.specs.declared.state.State.the-variants.{
   BusSleep,
   PrepareBusSleep,
   RepeatMessage,
   NormalOperation,
   ReadySleep,
 }
-use Rattle.rules.specs.State.{inNetwork, isPrepare, settled, transmits}
-use Rattle.rules.specs.Decision.{
+use Rattle.decision.specs.State.{inNetwork, isPrepare, settled, transmits}
+use Rattle.decision.specs.Decision.{
   Call,
   networkRequest,
   networkRelease,
@@ -31,8 +31,8 @@ use Rattle.rules.specs.Decision.{
   status,
   mainFunction,
 }
-use Rattle.rules.specs.Heard.{accepted, asksRepeat}
-use Rattle.rules.specs.Refusals.{refusal, isDone}
+use Rattle.frames.specs.Frames.{accepted, asksRepeat}
+use Rattle.decision.specs.Refusals.{refusal, isDone}
 use Rattle.channel.specs.Channel.{isTick}
 
 -- k: ticks since the last keep-awake, none before the first

@@ -7,7 +7,8 @@ use native.Mathlib.Omega.{arith}
 use lib.Arith.{digits-div}
 use lib.Dec.{leb, ltb, eqb}
 use borrow.Author.Tests.{leb-true, leb-false, ltb-true, ltb-false, eqb-true, eqb-false, le-leb, lt-leb, lt-ltb, le-ltb, eq-eqb, ne-eqb}
-use Rattle.ticks.specs.Ticks.{ticksOf}
+use Rattle.ticks.specs.declared.Conversion.{Conversion}
+use Rattle.ticks.specs.Ticks.{conversionOf, periodLeast, periodMost, ticksOf, timeMost}
 
 -- the quotient is k where the time lies behind k - 1 ticks and not behind k
 between : (p j ms : ℕ) → 1 ≤ p → ms ≤ suc j * p → j * p < ms → (ms + (p - 1)) / p ≡ suc j
@@ -51,3 +52,24 @@ no-tick p h =
 pub some-tick : (p ms : ℕ) → 1 ≤ p → 1 ≤ ms → ticksOf p ms ≡ 0 → ⊥
 unfolding ticksOf
 some-tick p ms h z e = let q = rw e at (upper p ms h) in omega arith
+
+-- the ways of a conversion
+abbrev gives : ℕ → ℕ → Conversion
+gives rule ticks = record { rule = rule; ticks = ticks }
+
+module _ (p ms : ℕ) where
+  pub within : periodLeast ≤ p → p ≤ periodMost → ms ≤ timeMost → gives 0 (ticksOf p ms) ≡ conversionOf p ms
+  unfolding conversionOf
+  within l m t = rw (le-leb _ _ l, le-leb _ _ m, le-leb _ _ t)
+
+  pub period-too-short : p < periodLeast → gives 1 0 ≡ conversionOf p ms
+  unfolding conversionOf
+  period-too-short l = rw (lt-leb _ _ l)
+
+  pub period-too-long : periodLeast ≤ p → periodMost < p → gives 1 0 ≡ conversionOf p ms
+  unfolding conversionOf
+  period-too-long l m = rw (le-leb _ _ l, lt-leb _ _ m)
+
+  pub time-too-long : periodLeast ≤ p → p ≤ periodMost → timeMost < ms → gives 2 0 ≡ conversionOf p ms
+  unfolding conversionOf
+  time-too-long l m t = rw (le-leb _ _ l, le-leb _ _ m, lt-leb _ _ t)

@@ -1,17 +1,25 @@
 -- `pdu::compose` meets its contract. Assumes nothing.
+use mathlib.Core.Path.{sym, _∙_}
 use borrow.Author.Needs.{needs}
-use borrow.Author.Tests.{eq-eqb, ne-eqb}
+use borrow.Author.Tests.{ne-eqb}
 use Rattle.pdu.specs.Pdu.{composing}
+use Rattle.pdu.proofs.Ways.{composes, composes-not}
 use Rattle.pdu.proofs.compose.Statement.{statement}
 use Rattle.pdu.proofs.compose.Tie as tie
 
 returns : tie.Need-returns
-unfolding composing
-returns c = rw (c .before .before .write-fields .ensures, ← c .before .before .before .before .before .before .before .of-lengths .ensures, ← c .before .before .before .before .before .before .before .before .before .first-broken-rule .ensures, ← c .before .before .before .before .before .both .ensures, c .before .before .before .before .if2 .taken, eq-eqb _ _ (c .before .before .before .before .before .before .before .before .if1 .taken))
+returns c =
+    let b = c .before .before .before .before in
+    let k = b .before .before .before in
+    rw (c .before .before .write-fields .ensures)
+    (composes _ _ _ (sym (k .before .before .first-broken-rule .ensures) ∙ k .before .if1 .taken)
+    (sym (rw (k .of-lengths .ensures) at (b .before .both .ensures)) ∙ b .if2 .taken))
 
 returns-2 : tie.Need-returns-2
-unfolding composing
-returns-2 c = rw (← c .before .before .before .of-lengths .ensures, ← c .before .before .before .before .before .first-broken-rule .ensures, ← c .before .both .ensures, c .if2 .left, eq-eqb _ _ (c .before .before .before .before .if1 .taken))
+returns-2 c =
+    let k = c .before .before .before in
+    composes-not _ _ _ (sym (k .before .before .first-broken-rule .ensures) ∙ k .before .if1 .taken)
+    (sym (rw (k .of-lengths .ensures) at (c .before .both .ensures)) ∙ c .if2 .left)
 
 returns-3 : tie.Need-returns-3
 unfolding composing

@@ -1,10 +1,11 @@
 -- `pdu::read` meets its contract. Assumes nothing.
 use mathlib.Core.Path.{_≡_, sym, _∙_, ap}
 use borrow.Author.Needs.{needs}
-use borrow.Author.Tests.{eq-eqb, ne-eqb}
+use borrow.Author.Tests.{ne-eqb}
 use Rattle.answers.specs.declared.Answer.the-variants.{Done}
 use Rattle.pdu.specs.Pdu.{reading, taken}
 use Rattle.pdu.proofs.Parts.{fields-laid}
+use Rattle.pdu.proofs.Ways.{reads-not}
 use Rattle.pdu.proofs.read.Statement.{statement}
 use Rattle.pdu.proofs.read.Tie as tie
 
@@ -28,8 +29,10 @@ returns c =
     (ap (taken Done) (fields-laid (a .c) (a .pdu .now) (a .pn .now) (a .user .now) whole fit))
 
 returns-2 : tie.Need-returns-2
-unfolding reading
-returns-2 c = rw (← c .before .before .before .of-lengths .ensures, ← c .before .before .before .before .before .first-broken-rule .ensures, ← c .before .both .ensures, c .if2 .left, eq-eqb _ _ (c .before .before .before .before .if1 .taken))
+returns-2 c =
+    let k = c .before .before .before in
+    reads-not _ _ _ _ (sym (k .before .before .first-broken-rule .ensures) ∙ k .before .if1 .taken)
+    (sym (rw (k .of-lengths .ensures) at (c .before .both .ensures)) ∙ c .if2 .left)
 
 returns-3 : tie.Need-returns-3
 unfolding reading

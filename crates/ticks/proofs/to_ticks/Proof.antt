@@ -3,22 +3,19 @@ use Prim.Native.Nat.{_+_, _-_}
 use native.Mathlib.Nat.{div-lt-iff-lt-mul}
 use native.Mathlib.Omega.{arith}
 use borrow.Author.Needs.{needs}
-use borrow.Author.Tests.{le-leb, lt-leb}
-use Rattle.ticks.specs.Ticks.{conversionOf, ticksOf}
+use Rattle.ticks.specs.Ticks.{ticksOf}
+use Rattle.ticks.proofs.Rounding.{period-too-long, period-too-short, time-too-long, within}
 use Rattle.ticks.proofs.to_ticks.Statement.{statement}
 use Rattle.ticks.proofs.to_ticks.Tie as tie
 
 returns : tie.Need-returns
-unfolding conversionOf
-returns c = rw (lt-leb _ _ (c .if1 .taken))
+returns c = period-too-short _ _ (c .if1 .taken)
 
 returns-2 : tie.Need-returns-2
-unfolding conversionOf
-returns-2 c = rw (le-leb _ _ (c .before .if1 .left), lt-leb _ _ (c .if2 .taken))
+returns-2 c = period-too-long _ _ (c .before .if1 .left) (c .if2 .taken)
 
 returns-3 : tie.Need-returns-3
-unfolding conversionOf
-returns-3 c = rw (le-leb _ _ (c .before .before .if1 .left), le-leb _ _ (c .before .if2 .left), lt-leb _ _ (c .if3 .taken))
+returns-3 c = time-too-long _ _ (c .before .before .if1 .left) (c .before .if2 .left) (c .if3 .taken)
 
 cast-t7 : tie.Need-cast-t7
 cast-t7 c =
@@ -26,8 +23,8 @@ cast-t7 c =
     record { fits = div-lt-iff-lt-mul {k = a .period} {y = 65536} (omega arith) .1 (omega arith) }
 
 returns-4 : tie.Need-returns-4
-unfolding conversionOf ticksOf
-returns-4 c = rw (le-leb _ _ (c .before .before .if1 .left), le-leb _ _ (c .before .if2 .left), le-leb _ _ (c .if3 .left))
+unfolding ticksOf
+returns-4 c = within _ _ (c .before .before .if1 .left) (c .before .if2 .left) (c .if3 .left)
 
 pub to-ticks-spec : {M : Type 1} → statement M
 to-ticks-spec =

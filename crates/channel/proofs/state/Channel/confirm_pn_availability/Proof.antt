@@ -1,6 +1,6 @@
 -- `channel::state::Channel::confirm_pn_availability` meets its contract. Assumes nothing.
 use mathlib.Core.Path.{sym}
-use Rattle.rules.specs.Decision.{confirmPnAvailability}
+use Rattle.decision.specs.Decision.{confirmPnAvailability}
 use Rattle.channel.proofs.Numbers.{by-number}
 use Rattle.channel.proofs.state.Channel.confirm_pn_availability.Statement.{statement}
 use Rattle.channel.proofs.state.Channel.confirm_pn_availability.Tie as tie

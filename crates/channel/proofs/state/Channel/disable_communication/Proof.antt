@@ -1,6 +1,6 @@
 -- `channel::state::Channel::disable_communication` meets its contract. Assumes nothing.
 use mathlib.Core.Path.{sym, _∙_}
-use Rattle.rules.specs.Decision.{disableCommunication}
+use Rattle.decision.specs.Decision.{disableCommunication}
 use Rattle.channel.proofs.Numbers.{by-number}
 use Rattle.channel.proofs.state.Channel.disable_communication.Statement.{statement}
 use Rattle.channel.proofs.state.Channel.disable_communication.Tie as tie

@@ -1,6 +1,6 @@
 -- `channel::state::Channel::enable_communication` meets its contract. Assumes nothing.
 use mathlib.Core.Path.{sym, _∙_}
-use Rattle.rules.specs.Decision.{enableCommunication}
+use Rattle.decision.specs.Decision.{enableCommunication}
 use Rattle.channel.proofs.Numbers.{by-number}
 use Rattle.channel.proofs.state.Channel.enable_communication.Statement.{statement}
 use Rattle.channel.proofs.state.Channel.enable_communication.Tie as tie

@@ -4,9 +4,9 @@ use mathlib.Core.Path.{_≡_, sym, _∙_}
 use mathlib.Core.Bool.{true, false}
 use borrow.Author.Needs.{needs}
 use lib.ListN.{length}
-use Rattle.rules.specs.Decision.{mainFunction}
-use Rattle.rules.specs.Heard.{framed}
-use Rattle.rules.specs.Refusals.{isDone, refusal}
+use Rattle.decision.specs.Decision.{mainFunction}
+use Rattle.frames.specs.Frames.{framed}
+use Rattle.decision.specs.Refusals.{isDone, refusal}
 use Rattle.channel.specs.Channel.{
   againFor,
   answerOf,

@@ -1,6 +1,6 @@
 -- `channel::state::Channel::network_release` meets its contract. Assumes nothing.
 use mathlib.Core.Path.{sym, _∙_}
-use Rattle.rules.specs.Decision.{networkRelease}
+use Rattle.decision.specs.Decision.{networkRelease}
 use Rattle.channel.proofs.Numbers.{by-number}
 use Rattle.channel.proofs.state.Channel.network_release.Statement.{statement}
 use Rattle.channel.proofs.state.Channel.network_release.Tie as tie

@@ -1,6 +1,6 @@
 -- `channel::state::Channel::network_request` meets its contract. Assumes nothing.
 use mathlib.Core.Path.{sym, _∙_}
-use Rattle.rules.specs.Decision.{networkRequest}
+use Rattle.decision.specs.Decision.{networkRequest}
 use Rattle.channel.proofs.Numbers.{by-number}
 use Rattle.channel.proofs.state.Channel.network_request.Statement.{statement}
 use Rattle.channel.proofs.state.Channel.network_request.Tie as tie

@@ -1,6 +1,6 @@
 -- `channel::state::Channel::passive_start_up` meets its contract. Assumes nothing.
 use mathlib.Core.Path.{sym, _∙_}
-use Rattle.rules.specs.Decision.{passiveStartUp}
+use Rattle.decision.specs.Decision.{passiveStartUp}
 use Rattle.channel.proofs.Numbers.{by-number}
 use Rattle.channel.proofs.state.Channel.passive_start_up.Statement.{statement}
 use Rattle.channel.proofs.state.Channel.passive_start_up.Tie as tie

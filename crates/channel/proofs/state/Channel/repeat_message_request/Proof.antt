@@ -1,6 +1,6 @@
 -- `channel::state::Channel::repeat_message_request` meets its contract. Assumes nothing.
 use mathlib.Core.Path.{sym, _∙_}
-use Rattle.rules.specs.Decision.{repeatMessageRequest}
+use Rattle.decision.specs.Decision.{repeatMessageRequest}
 use Rattle.channel.proofs.Numbers.{by-number}
 use Rattle.channel.proofs.state.Channel.repeat_message_request.Statement.{statement}
 use Rattle.channel.proofs.state.Channel.repeat_message_request.Tie as tie

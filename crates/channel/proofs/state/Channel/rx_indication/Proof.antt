@@ -1,10 +1,10 @@
 -- `channel::state::Channel::rx_indication` meets its contract. Assumes nothing.
 use mathlib.Core.Path.{_≡_, sym, _∙_}
-use Rattle.rules.specs.Decision.{rxIndication}
-use Rattle.rules.specs.Refusals.{refusal}
-use Rattle.rules.specs.Mode.{modeBy}
-use Rattle.rules.specs.Traffic.{trafficBy}
-use Rattle.rules.specs.Notes.{firstBy, secondBy}
+use Rattle.decision.specs.Decision.{rxIndication}
+use Rattle.decision.specs.Refusals.{refusal}
+use Rattle.modes.specs.Mode.{modeBy}
+use Rattle.traffic.specs.Traffic.{trafficBy}
+use Rattle.traffic.specs.Notes.{firstBy, secondBy}
 use Rattle.channel.specs.Channel.{
   againFor,
   answerOf,

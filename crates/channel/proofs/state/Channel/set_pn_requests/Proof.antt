@@ -1,7 +1,7 @@
 -- `channel::state::Channel::set_pn_requests` meets its contract. Assumes nothing.
 use mathlib.Core.Path.{_≡_}
-use Rattle.rules.specs.Decision.{setPnRequests}
-use Rattle.rules.specs.Refusals.{refusal}
+use Rattle.decision.specs.Decision.{setPnRequests}
+use Rattle.decision.specs.Refusals.{refusal}
 use Rattle.channel.specs.Channel.{
   againFor,
   answerOf,

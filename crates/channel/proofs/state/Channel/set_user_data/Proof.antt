@@ -1,7 +1,7 @@
 -- `channel::state::Channel::set_user_data` meets its contract. Assumes nothing.
 use mathlib.Core.Path.{_≡_}
-use Rattle.rules.specs.Decision.{setUserData}
-use Rattle.rules.specs.Refusals.{refusal}
+use Rattle.decision.specs.Decision.{setUserData}
+use Rattle.decision.specs.Refusals.{refusal}
 use Rattle.channel.specs.Channel.{
   againFor,
   answerOf,

@@ -1,7 +1,7 @@
 -- `channel::state::Channel::status` meets its contract. Assumes nothing.
 use mathlib.Core.Path.{_≡_}
-use Rattle.rules.specs.Decision.{status}
-use Rattle.rules.specs.Refusals.{refusal}
+use Rattle.decision.specs.Decision.{status}
+use Rattle.decision.specs.Refusals.{refusal}
 use Rattle.channel.specs.Channel.{answerOf, shown, sound, statusOf}
 use Rattle.channel.proofs.state.Channel.status.Statement.{statement}
 use Rattle.channel.proofs.state.Channel.status.Tie as tie

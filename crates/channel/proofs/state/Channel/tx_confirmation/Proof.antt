@@ -1,6 +1,6 @@
 -- `channel::state::Channel::tx_confirmation` meets its contract. Assumes nothing.
 use mathlib.Core.Path.{sym, _∙_}
-use Rattle.rules.specs.Decision.{txConfirmation}
+use Rattle.decision.specs.Decision.{txConfirmation}
 use Rattle.channel.proofs.Numbers.{by-number}
 use Rattle.channel.proofs.state.Channel.tx_confirmation.Statement.{statement}
 use Rattle.channel.proofs.state.Channel.tx_confirmation.Tie as tie

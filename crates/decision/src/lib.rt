@@ -1,0 +1,266 @@
+// The states and the calls by their numbers, and which transition rule a call brings in a state: one decision over both.
+//
+// Promises: each function is a definition of specs/, which also says what a call is refused with. Leaves to others: what
+// a rule does (`modes`, `traffic`).
+pub mod state;
+
+use self::state::State;
+ghost use mathlib.Core.Path.{_≡_};
+ghost use Prim.Native.Nat.{_+_, _*_};
+ghost use Rattle.decision.specs.State.{stateNumber, inNetwork, isBusSleep, isNormal, isPrepare, isRepeat, settled, transmits};
+ghost use Rattle.decision.specs.Decision.{isNotHere, ruleAt, ruleOf};
+
+// The calls by their number.
+pub const NETWORK_REQUEST: u8 = 0;
+
+pub const NETWORK_RELEASE: u8 = 1;
+
+pub const PASSIVE_START_UP: u8 = 2;
+
+pub const REPEAT_MESSAGE_REQUEST: u8 = 3;
+
+pub const DISABLE_COMMUNICATION: u8 = 4;
+
+pub const ENABLE_COMMUNICATION: u8 = 5;
+
+pub const TX_CONFIRMATION: u8 = 6;
+
+pub const RX_INDICATION: u8 = 7;
+
+pub const CONFIRM_PN_AVAILABILITY: u8 = 8;
+
+pub const SET_USER_DATA: u8 = 9;
+
+pub const SET_PN_REQUESTS: u8 = 10;
+
+pub const STATUS: u8 = 11;
+
+pub const MAIN_FUNCTION: u8 = 12;
+
+// The transition rules.
+pub enum Rule {
+    // The state and its timers stay.
+    Keep,
+    // The call is not for this state.
+    NotHere,
+    // Network Mode is entered.
+    WakeUp,
+    // The same by a request.
+    ActiveWakeUp,
+    // Requested, no more.
+    Request,
+    // Requested, from Ready Sleep to Normal Operation.
+    ToNormal,
+    // Released, no more.
+    Release,
+    // Released, from Normal Operation to Ready Sleep.
+    ToReady,
+    // Repeat Message is entered.
+    Repeat,
+    Disable,
+    Enable,
+    Confirm,
+    // A PDU: in Bus-Sleep only told, in Network Mode heard.
+    Start,
+    HeardInRepeat,
+    HeardInNormal,
+    HeardInReady,
+    FilterOn,
+    // A tick that begins in Prepare Bus-Sleep, in Repeat Message, in Normal Operation, in Ready Sleep.
+    TickInPrepare,
+    TickInRepeat,
+    TickInNormal,
+    TickInReady,
+}
+
+// The rule of state and call: five keys for each call, one for each state.
+pub fn rule_at(key: u8) -> Rule
+    ensures { λ r. ⌜ r ≡ ruleAt key ⌝ }
+{
+    match key {
+        // network request
+        0..=1 => Rule::ActiveWakeUp,
+        2..=3 => Rule::Request,
+        4 => Rule::ToNormal,
+        // network release
+        5..=7 => Rule::Release,
+        8 => Rule::ToReady,
+        9 => Rule::Release,
+        // passive start-up
+        10..=11 => Rule::WakeUp,
+        12..=14 => Rule::NotHere,
+        // repeat message request
+        15..=17 => Rule::NotHere,
+        18..=19 => Rule::Repeat,
+        // disable communication
+        20..=21 => Rule::NotHere,
+        22..=24 => Rule::Disable,
+        // enable communication
+        25..=26 => Rule::NotHere,
+        27..=29 => Rule::Enable,
+        // transmission confirmed
+        30..=31 => Rule::Keep,
+        32..=34 => Rule::Confirm,
+        // PDU received
+        35 => Rule::Start,
+        36 => Rule::WakeUp,
+        37 => Rule::HeardInRepeat,
+        38 => Rule::HeardInNormal,
+        39 => Rule::HeardInReady,
+        // confirm PN availability
+        40..=44 => Rule::FilterOn,
+        // set user data
+        45..=49 => Rule::Keep,
+        // set PN requests
+        50..=54 => Rule::Keep,
+        // status
+        55..=59 => Rule::Keep,
+        // main function
+        60 => Rule::Keep,
+        61 => Rule::TickInPrepare,
+        62 => Rule::TickInRepeat,
+        63 => Rule::TickInNormal,
+        64 => Rule::TickInReady,
+        // no call has a larger number
+        65..=255 => Rule::Keep,
+    }
+}
+
+// The number of a state.
+pub fn state_number(s: State) -> u8
+    ensures { λ r. ⌜ r ≡ stateNumber s ⌝ }
+{
+    match s {
+        State::BusSleep => 0,
+        State::PrepareBusSleep => 1,
+        State::RepeatMessage => 2,
+        State::NormalOperation => 3,
+        State::ReadySleep => 4,
+    }
+}
+
+// Is it Network Mode?
+pub fn in_network(s: State) -> bool
+    ensures { λ r. ⌜ r ≡ inNetwork s ⌝ }
+{
+    match s {
+        State::BusSleep => false,
+        State::PrepareBusSleep => false,
+        State::RepeatMessage => true,
+        State::NormalOperation => true,
+        State::ReadySleep => true,
+    }
+}
+
+// Does an active channel send in it?
+pub fn transmits(s: State) -> bool
+    ensures { λ r. ⌜ r ≡ transmits s ⌝ }
+{
+    match s {
+        State::BusSleep => false,
+        State::PrepareBusSleep => false,
+        State::RepeatMessage => true,
+        State::NormalOperation => true,
+        State::ReadySleep => false,
+    }
+}
+
+// Is it Normal Operation or Ready Sleep?
+pub fn settled(s: State) -> bool
+    ensures { λ r. ⌜ r ≡ settled s ⌝ }
+{
+    match s {
+        State::BusSleep => false,
+        State::PrepareBusSleep => false,
+        State::RepeatMessage => false,
+        State::NormalOperation => true,
+        State::ReadySleep => true,
+    }
+}
+
+pub fn is_bus_sleep(s: State) -> bool
+    ensures { λ r. ⌜ r ≡ isBusSleep s ⌝ }
+{
+    match s {
+        State::BusSleep => true,
+        State::PrepareBusSleep => false,
+        State::RepeatMessage => false,
+        State::NormalOperation => false,
+        State::ReadySleep => false,
+    }
+}
+
+pub fn is_prepare(s: State) -> bool
+    ensures { λ r. ⌜ r ≡ isPrepare s ⌝ }
+{
+    match s {
+        State::BusSleep => false,
+        State::PrepareBusSleep => true,
+        State::RepeatMessage => false,
+        State::NormalOperation => false,
+        State::ReadySleep => false,
+    }
+}
+
+pub fn is_repeat(s: State) -> bool
+    ensures { λ r. ⌜ r ≡ isRepeat s ⌝ }
+{
+    match s {
+        State::BusSleep => false,
+        State::PrepareBusSleep => false,
+        State::RepeatMessage => true,
+        State::NormalOperation => false,
+        State::ReadySleep => false,
+    }
+}
+
+pub fn is_normal(s: State) -> bool
+    ensures { λ r. ⌜ r ≡ isNormal s ⌝ }
+{
+    match s {
+        State::BusSleep => false,
+        State::PrepareBusSleep => false,
+        State::RepeatMessage => false,
+        State::NormalOperation => true,
+        State::ReadySleep => false,
+    }
+}
+
+// Is the call not for the state?
+pub fn is_not_here(rule: Rule) -> bool
+    ensures { λ r. ⌜ r ≡ isNotHere rule ⌝ }
+{
+    match rule {
+        Rule::Keep => false,
+        Rule::NotHere => true,
+        Rule::WakeUp => false,
+        Rule::ActiveWakeUp => false,
+        Rule::Request => false,
+        Rule::ToNormal => false,
+        Rule::Release => false,
+        Rule::ToReady => false,
+        Rule::Repeat => false,
+        Rule::Disable => false,
+        Rule::Enable => false,
+        Rule::Confirm => false,
+        Rule::Start => false,
+        Rule::HeardInRepeat => false,
+        Rule::HeardInNormal => false,
+        Rule::HeardInReady => false,
+        Rule::FilterOn => false,
+        Rule::TickInPrepare => false,
+        Rule::TickInRepeat => false,
+        Rule::TickInNormal => false,
+        Rule::TickInReady => false,
+    }
+}
+
+// The rule of a call in a state.
+pub fn rule_of(s: State, call: u8) -> Rule
+    ensures { λ r. ⌜ r ≡ ruleOf s call ⌝ }
+{
+    if call < 13 {
+        return rule_at(5 * call + state_number(s));
+    }
+    Rule::Keep
+}

@@ -1,0 +1,11 @@
+-- `soundness::same_ticks` meets its contract. Assumes nothing.
+use Rattle.config.specs.Rules.{ticksFor}
+use Rattle.soundness.proofs.same_ticks.Statement.{statement}
+use Rattle.soundness.proofs.same_ticks.Tie as tie
+
+returns : tie.Need-returns
+unfolding ticksFor
+returns c = rw (c .both7 .ensures, c .before .is-conversion8 .ensures, c .before .before .both6 .ensures, c .before .before .before .is-conversion7 .ensures, c .before .before .before .before .both5 .ensures, c .before .before .before .before .before .is-conversion6 .ensures, c .before .before .before .before .before .before .both4 .ensures, c .before .before .before .before .before .before .before .is-conversion5 .ensures, c .before .before .before .before .before .before .before .before .both3 .ensures, c .before .before .before .before .before .before .before .before .before .is-conversion4 .ensures, c .before .before .before .before .before .before .before .before .before .before .both2 .ensures, c .before .before .before .before .before .before .before .before .before .before .before .is-conversion3 .ensures, c .before .before .before .before .before .before .before .before .before .before .before .before .both .ensures, c .before .before .before .before .before .before .before .before .before .before .before .before .before .is-conversion2 .ensures, c .before .before .before .before .before .before .before .before .before .before .before .before .before .before .is-conversion .ensures)
+
+pub same-ticks-spec : {M : Type 1} → statement M
+same-ticks-spec = tie.close (tie.spec (λ c κs. tt) (λ c κs. tt) (λ c κs. tt) (λ c κs. tt) (λ c κs. tt) (λ c κs. tt) (λ c κs. tt) (λ c κs. tt) (λ c κs. tt) (λ c κs. tt) (λ c κs. tt) (λ c κs. tt) (λ c κs. tt) (λ c κs. tt) (λ c κs. tt) returns)

@@ -1,0 +1,166 @@
+// Sound states, condition by condition.
+//
+// Promises: each function is a definition of specs/. Leaves to others: refusing a state that is not sound (`channel`).
+use config::Config;
+use config::Ticks;
+use decision::in_network;
+use decision::is_normal;
+use decision::is_prepare;
+use decision::is_repeat;
+use decision::settled;
+use decision::state::Mode;
+use decision::state::State;
+use decision::state::Traffic;
+use decision::transmits;
+use traffic::Setup;
+use traffic::setup_of;
+ghost use mathlib.Core.Path.{_≡_};
+ghost use mathlib.Core.Bool.{_&&_};
+ghost use lib.ListN.{take};
+ghost use Rattle.bits.specs.Timers.{allWithin};
+ghost use Rattle.config.specs.Rules.{ticksFor};
+ghost use Rattle.soundness.specs.Sound.{configured, larger, modeSound, only, passiveSound, requestFits, runs, sameTicks, scalarsSound, timersSound, trafficSound};
+
+// Are kept ticks what the times come to? By multiplying.
+fn same_ticks(c: Config, t: Ticks) -> bool
+    ensures { λ r. ⌜ r ≡ sameTicks t (ticksFor c) ⌝ }
+{
+    let mut ok = ticks::is_conversion(c.period, c.times.timeout, t.timeout);
+    ok = choice::both(ok, ticks::is_conversion(c.period, c.times.wait, t.wait));
+    ok = choice::both(ok, ticks::is_conversion(c.period, c.times.repeat, t.repeat));
+    ok = choice::both(ok, ticks::is_conversion(c.period, c.times.cycle, t.cycle));
+    ok = choice::both(ok, ticks::is_conversion(c.period, c.times.offset, t.offset));
+    ok = choice::both(ok, ticks::is_conversion(c.period, c.times.fast, t.fast));
+    ok = choice::both(ok, ticks::is_conversion(c.period, c.times.remote, t.remote));
+    choice::both(ok, ticks::is_conversion(c.period, c.times.reset, t.reset))
+}
+
+fn configured(c: Config, t: Ticks) -> bool
+    ensures { λ r. ⌜ r ≡ configured c t ⌝ }
+{
+    choice::both(config::first_broken_by(c, t) == 0, same_ticks(c, t))
+}
+
+fn runs(running: bool, top: u16, n: u16) -> bool
+    ensures { λ r. ⌜ r ≡ runs running top n ⌝ }
+{
+    if running {
+        return choice::both(1 <= n, n <= top);
+    }
+    n == 0
+}
+
+// Does the flag of a request fit the state?
+fn request_fits(requested: bool, s: State) -> bool
+    ensures { λ r. ⌜ r ≡ requestFits requested s ⌝ }
+{
+    if requested {
+        return choice::either(is_repeat(s), is_normal(s));
+    }
+    choice::negation(is_normal(s))
+}
+
+fn mode_sound(t: Ticks, m: Mode) -> bool
+    ensures { λ r. ⌜ r ≡ modeSound t m ⌝ }
+{
+    let s = m.state;
+    let mut ok = choice::both(
+        runs(in_network(s), t.timeout, m.nm),
+        runs(is_prepare(s), t.wait, m.wait),
+    );
+    ok = choice::both(ok, runs(is_repeat(s), t.repeat, m.repeat));
+    ok = choice::both(ok, request_fits(m.requested, s));
+    choice::both(ok, choice::either(m.sending, in_network(s)))
+}
+
+fn larger(a: u16, b: u16) -> u16
+    ensures { λ r. ⌜ r ≡ larger a b ⌝ }
+{
+    choice::pick16(a < b, b, a)
+}
+
+// A flag that is set only where a test holds.
+fn only(flag: bool, test: bool) -> bool
+    ensures { λ r. ⌜ r ≡ only flag test ⌝ }
+{
+    choice::either(choice::negation(flag), test)
+}
+
+fn traffic_sound(s: Setup, m: State, x: Traffic) -> bool
+    ensures { λ r. ⌜ r ≡ trafficSound s m x ⌝ }
+{
+    let sending = choice::both(transmits(m), choice::negation(s.passive));
+    let watched = choice::both(is_normal(m), 0 < s.ticks.remote);
+    let mut ok = choice::both(
+        runs(sending, larger(s.ticks.cycle, s.ticks.fast), x.message),
+        x.fast <= choice::pick16(is_repeat(m), s.immediate, 0),
+    );
+    ok = choice::both(
+        ok,
+        runs(
+            choice::both(watched, choice::negation(x.indicated)),
+            s.ticks.remote,
+            x.remote,
+        ),
+    );
+    ok = choice::both(ok, only(x.repeating, is_repeat(m)));
+    ok = choice::both(ok, only(x.waking, in_network(m)));
+    choice::both(
+        ok,
+        only(x.indicated, choice::both(settled(m), 0 < s.ticks.remote)),
+    )
+}
+
+fn passive_sound(passive: bool, m: Mode, x: Traffic) -> bool
+    ensures { λ r. ⌜ r ≡ passiveSound passive m x ⌝ }
+{
+    let s = m.state;
+    let mut ok = choice::both(choice::negation(m.requested), m.sending);
+    ok = choice::both(ok, choice::negation(x.indicated));
+    ok = choice::both(ok, choice::negation(is_normal(s)));
+    ok = choice::both(ok, choice::negation(x.repeating));
+    ok = choice::both(ok, choice::negation(x.waking));
+    only(passive, ok)
+}
+
+// All but the PN timers.
+fn scalars_sound(c: Config, t: Ticks, m: Mode, x: Traffic) -> bool
+    ensures { λ r. ⌜ r ≡ scalarsSound c t m x ⌝ }
+{
+    let state = m.state;
+    let mut ok = choice::both(configured(c, t), mode_sound(t, m));
+    ok = choice::both(ok, traffic_sound(setup_of(c, t), state, x));
+    choice::both(ok, passive_sound(c.passive, m, x))
+}
+
+// The PN timers of both tables, at their lengths.
+fn timers_sound<'a>(
+    mask: &'a [u8; 8],
+    n: usize,
+    reset: u16,
+    era: &'a [u16; 56],
+    eira: &'a [u16; 56],
+) -> bool
+    ensures { λ r. ⌜ r ≡ (allWithin (take n (now (mask .entry))) reset (now (era .entry)) && allWithin (take n (now (mask .entry))) reset (now (eira .entry))) ⌝ }
+{
+    bits::pair_within(mask, n, reset, era, eira)
+}
+
+// A channel's parts are sound; its tables are lent, not copied.
+pub fn sound<'a>(
+    c: Config,
+    t: Ticks,
+    m: Mode,
+    x: Traffic,
+    era: &'a [u16; 56],
+    eira: &'a [u16; 56],
+) -> bool
+    ensures { λ r. ⌜ r ≡ (scalarsSound c t m x && (timersSound c t (now (era .entry)) && timersSound c t (now (eira .entry)))) ⌝ }
+{
+    let mask = c.pn.mask;
+    let n = c.pn.length as usize;
+    choice::both(
+        scalars_sound(c, t, m, x),
+        timers_sound(&mask, n, t.reset, era, eira),
+    )
+}

@@ -1,0 +1,157 @@
+-- What each transition rule does to message and remote timers, fast count, indication and bits. It sees the mode before and
+-- after, and never changes it. Assumes nothing.
+use Prim.Native.Nat.{ℕ, _-_}
+use mathlib.Core.Bool.{Bool, true, false, cond, not, _&&_}
+use lib.Dec.{leb, ltb, eqb}
+use Rattle.config.specs.declared.Config.{Config}
+use Rattle.config.specs.declared.Ticks.{Ticks}
+use Rattle.decision.specs.declared.state.State.{State}
+use Rattle.decision.specs.declared.state.Mode.{Mode}
+use Rattle.decision.specs.declared.state.Traffic.{Traffic}
+use Rattle.traffic.specs.declared.Setup.{Setup}
+use Rattle.decision.specs.declared.Rule.{Rule}
+use Rattle.decision.specs.declared.Rule.the-variants.{
+  Keep,
+  NotHere,
+  WakeUp,
+  ActiveWakeUp,
+  Request,
+  ToNormal,
+  Release,
+  ToReady,
+  Repeat,
+  Disable,
+  Enable,
+  Confirm,
+  Start,
+  HeardInRepeat,
+  HeardInNormal,
+  HeardInReady,
+  FilterOn,
+  TickInPrepare,
+  TickInRepeat,
+  TickInNormal,
+  TickInReady,
+}
+use Rattle.decision.specs.State.{transmits, isRepeat, isNormal, isPrepare}
+
+abbrev pub traffic : ℕ → ℕ → ℕ → Bool → Bool → Bool → Traffic
+traffic m f r i b w = record { message = m; fast = f; remote = r; indicated = i; repeating = b; waking = w }
+
+abbrev pub withMessage : ℕ → Traffic → Traffic
+withMessage m x = traffic m (x .fast) (x .remote) (x .indicated) (x .repeating) (x .waking)
+
+abbrev pub withRemote : ℕ → Bool → Traffic → Traffic
+withRemote r i x = traffic (x .message) (x .fast) r i (x .repeating) (x .waking)
+
+-- what the rules here need of the configuration
+unfoldable pub setupOf : Config → Ticks → Setup
+setupOf c t = record { ticks = t; immediate = cond (ltb (c .immediate) 65536) (c .immediate) 0; passive = c .passive }
+
+-- ---- entering
+
+-- the first frame in Repeat: after the offset, at least one tick; a passive channel sends none
+abbrev pub firstMessage : Setup → ℕ
+firstMessage s = cond (s .passive) 0 (cond (ltb (s .ticks .offset) 1) 1 (s .ticks .offset))
+
+-- Repeat: the message timer starts, fast count and remote timer are 0, an indication is cleared
+unfoldable pub toRepeat : Setup → Traffic → Traffic
+toRepeat s x = traffic (firstMessage s) 0 0 false (x .repeating) (x .waking)
+
+-- by a request: the active wakeup bit is set, and fast frames go out at once
+unfoldable pub toRepeatActive : Setup → Traffic → Traffic
+toRepeatActive s x =
+    cond (ltb 0 (s .immediate)) (traffic 1 (s .immediate) 0 false (x .repeating) true)
+    (traffic (firstMessage s) 0 0 false (x .repeating) true)
+
+-- by a repeat request: the repeat bit is set
+unfoldable pub toRepeatAsked : Setup → Traffic → Traffic
+toRepeatAsked s x = traffic (firstMessage s) 0 0 false true (x .waking)
+
+-- Normal: the remote timer starts unless remote sleep is indicated
+abbrev pub watching : Setup → Traffic → ℕ
+watching s x = cond (x .indicated) 0 (s .ticks .remote)
+
+unfoldable pub toNormal : Setup → Traffic → Traffic
+toNormal s x = traffic 1 (x .fast) (watching s x) (x .indicated) (x .repeating) (x .waking)
+
+-- Ready holds message and remote timer 0
+unfoldable pub toReady : Traffic → Traffic
+toReady x = traffic 0 (x .fast) 0 (x .indicated) (x .repeating) (x .waking)
+
+-- enabled after a disable: a frame in the next tick of Repeat or Normal
+unfoldable pub resumed : Mode → Traffic → Traffic
+resumed m x = withMessage (cond (not (m .sending) && transmits (m .state)) 1 (x .message)) x
+
+-- a PDU heard in Normal: the indication is cancelled and the remote timer starts again; in Ready: it is cancelled
+unfoldable pub heardInNormal : Bool → Setup → Traffic → Traffic
+heardInNormal again s x = cond again (toRepeat s x) (withRemote (s .ticks .remote) false x)
+
+unfoldable pub heardInReady : Bool → Setup → Traffic → Traffic
+heardInReady again s x = cond again (toRepeat s x) (withRemote (x .remote) false x)
+
+-- ---- the tick
+
+-- a, in Ready: with Prepare indication and active wakeup bit are cleared
+unfoldable pub inReady : State → Traffic → Traffic
+inReady after x =
+    cond (isPrepare after) (traffic (x .message) (x .fast) (x .remote) false (x .repeating) false) x
+
+-- c: Repeat left: repeat bit and fast count are cleared; Normal starts the remote timer, Ready stops the message timer
+unfoldable pub inRepeat : Setup → State → Traffic → Traffic
+inRepeat s after x =
+    cond (isRepeat after) x
+    (cond (isNormal after) (traffic (x .message) 0 (watching s x) (x .indicated) false (x .waking))
+    (traffic 0 0 0 (x .indicated) false (x .waking)))
+
+-- d: sending enabled, a running remote timer down; at 0 remote sleep is indicated
+unfoldable pub inNormal : Mode → Traffic → Traffic
+inNormal m x =
+    cond (m .sending && ltb 0 (x .remote)) (withRemote (x .remote - 1) (leb (x .remote) 1) x) x
+
+-- f: in Repeat or Normal of an active channel with sending enabled the message timer counts; at 0 a frame is due
+unfoldable pub counts : Setup → Mode → Bool
+counts s after = transmits (after .state) && not (s .passive) && after .sending
+
+unfoldable pub isDue : Setup → Mode → Traffic → Bool
+isDue s after x = counts s after && leb (x .message) 1
+
+-- taken: a fast count above 0 falls, the fast cycle follows while it is still above 0, else the cycle
+abbrev pub afterSent : Setup → Traffic → Traffic
+afterSent s x =
+    traffic (cond (ltb 1 (x .fast)) (s .ticks .fast) (s .ticks .cycle)) (x .fast - 1) (x .remote) (x .indicated) (x .repeating)
+    (x .waking)
+
+-- not taken: tried again in the next tick of fast frames, else after the cycle
+abbrev pub afterMissed : Setup → Traffic → Traffic
+afterMissed s x = withMessage (cond (ltb 0 (x .fast)) 1 (s .ticks .cycle)) x
+
+unfoldable pub framing : Setup → Mode → Bool → Traffic → Traffic
+framing s after taken x =
+    cond (counts s after)
+    (cond (leb (x .message) 1) (cond taken (afterSent s x) (afterMissed s x)) (withMessage (x .message - 1) x))
+    x
+
+-- ---- the rules
+unfoldable pub trafficBy : Rule → Bool → Setup → Mode → Mode → Traffic → Traffic
+trafficBy Keep again s before after x = x
+trafficBy NotHere again s before after x = x
+trafficBy WakeUp again s before after x = toRepeat s x
+trafficBy ActiveWakeUp again s before after x = toRepeatActive s x
+trafficBy Request again s before after x = x
+trafficBy ToNormal again s before after x = toNormal s x
+trafficBy Release again s before after x = x
+trafficBy ToReady again s before after x = toReady x
+trafficBy Repeat again s before after x = toRepeatAsked s x
+trafficBy Disable again s before after x = x
+trafficBy Enable again s before after x = resumed before x
+trafficBy Confirm again s before after x = x
+trafficBy Start again s before after x = x
+trafficBy HeardInRepeat again s before after x = x
+trafficBy HeardInNormal again s before after x = heardInNormal again s x
+trafficBy HeardInReady again s before after x = heardInReady again s x
+trafficBy FilterOn again s before after x = x
+trafficBy TickInPrepare again s before after x = x
+trafficBy TickInRepeat again s before after x = inRepeat s (after .state) x
+trafficBy TickInNormal again s before after x = inNormal before x
+trafficBy TickInReady again s before after x = inReady (after .state) x
