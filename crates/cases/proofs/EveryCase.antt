@@ -48,7 +48,7 @@ use Rattle.modes.specs.Mode.{
   waitInPrepare,
 }
 use Rattle.traffic.specs.Traffic.{counts, framing, inNormal, inReady, inRepeat, isDue, setupOf, toRepeat, trafficBy}
-use Rattle.traffic.specs.Notes.{firstBy, secondBy}
+use Rattle.notes.specs.Notes.{firstBy, secondBy}
 use Rattle.soundness.specs.Sound.{configured, modeSound, passiveSound, scalarsSound, trafficSound}
 use Rattle.frames.specs.Frames.{accepted, asksRepeat, loadedBy, sentLoaded}
 use Rattle.decision.specs.Refusals.{refusal}

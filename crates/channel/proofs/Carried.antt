@@ -14,7 +14,7 @@ use Rattle.decision.specs.declared.state.Mode.{Mode}
 use Rattle.decision.specs.declared.state.Traffic.{Traffic}
 use Rattle.modes.specs.Mode.{modeBy}
 use Rattle.traffic.specs.Traffic.{framing, setupOf, trafficBy}
-use Rattle.traffic.specs.Notes.{firstBy, secondBy}
+use Rattle.notes.specs.Notes.{firstBy, secondBy}
 use Rattle.decision.specs.Refusals.{isDone}
 use Rattle.channel.specs.Channel.{
   againFor,

@@ -50,7 +50,7 @@ use Rattle.decision.specs.Decision.{
 }
 use Rattle.modes.specs.Mode.{mode, modeBy}
 use Rattle.traffic.specs.Traffic.{traffic, trafficBy, setupOf, framing, isDue}
-use Rattle.traffic.specs.Notes.{firstBy, secondBy}
+use Rattle.notes.specs.Notes.{firstBy, secondBy}
 use Rattle.soundness.specs.Sound.{scalarsSound, timersSound}
 use Rattle.frames.specs.Frames.{accepted, asksRepeat, framed, loadedBy, sentLoaded}
 use Rattle.decision.specs.Refusals.{refusal, isDone, judged}

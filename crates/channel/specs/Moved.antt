@@ -9,7 +9,7 @@ use Rattle.channel.specs.declared.state.Reply.{Reply}
 use Rattle.decision.specs.declared.Rule.{Rule}
 use Rattle.modes.specs.Mode.{modeBy}
 use Rattle.traffic.specs.Traffic.{trafficBy, setupOf}
-use Rattle.traffic.specs.Notes.{firstBy, secondBy}
+use Rattle.notes.specs.Notes.{firstBy, secondBy}
 use Rattle.decision.specs.declared.Rule.the-variants.{Keep}
 use Rattle.decision.specs.Decision.{isNotHere, ruleOf}
 use Rattle.decision.specs.Refusals.{firstOf, isDone, judged}

@@ -23,8 +23,7 @@ use state::Reply;
 use state::Started;
 use state::Status;
 ghost use mathlib.Core.Path.{_≡_};
-ghost use mathlib.Core.Bool.{false, true, cond};
-ghost use Rattle.decision.specs.declared.Rule.the-variants.{Keep};
+ghost use mathlib.Core.Bool.{false, true};
 ghost use Rattle.bits.specs.Bits.{countOnes, lowestIn};
 ghost use Rattle.decision.specs.Decision.{
   confirmPnAvailability,
@@ -39,7 +38,6 @@ ghost use Rattle.decision.specs.Decision.{
   setUserData,
   txConfirmation,
 };
-ghost use Rattle.decision.specs.Refusals.{firstOf, isDone, judged};
 ghost use Rattle.channel.specs.Channel.{
   fresh,
   freshMode,
@@ -62,42 +60,6 @@ ghost use Rattle.channel.specs.Moved.{finished, movedBy, plainly, told};
 pub mod state;
 
 // ---- answers
-
-// The answer by the rows of the table, in their order.
-fn judge(sound: bool, passive: bool, off: bool, elsewhere: bool, size: bool) -> Answer
-    ensures { λ r. ⌜ r ≡ judged sound (firstOf passive off elsewhere size) ⌝ }
-{
-    if sound {
-        if passive {
-            return Answer::Passive;
-        }
-        if off {
-            return Answer::PnOff;
-        }
-        if elsewhere {
-            return Answer::State;
-        }
-        if size {
-            return Answer::Length;
-        }
-        return Answer::Done;
-    }
-    Answer::Unsound
-}
-
-fn is_done(a: Answer) -> bool
-    ensures { λ r. ⌜ r ≡ isDone a ⌝ }
-{
-    match a {
-        Answer::Done => true,
-        Answer::Unsound => false,
-        Answer::Rule(_) => false,
-        Answer::State => false,
-        Answer::Passive => false,
-        Answer::Length => false,
-        Answer::PnOff => false,
-    }
-}
 
 fn refused(ch: Channel, a: Answer) -> Reply
     ensures { λ r. ⌜ r ≡ refused ch a ⌝ }
@@ -126,8 +88,8 @@ fn moved(mut ch: Channel, rule: Rule, again: bool, ei: bool, er: bool) -> Reply
     let after = modes::mode_by(rule, again, ch.own.ticks, before);
     let s = traffic::setup_of(ch.own.config, ch.own.ticks);
     let new = traffic::traffic_by(rule, again, s, before, after, old);
-    let first = traffic::notes::first_by(rule, before, after);
-    let second = traffic::notes::second_by(rule, before, old);
+    let first = notes::first_by(rule, before, after);
+    let second = notes::second_by(rule, before, old);
     let mut own = ch.own;
     own.mode = after;
     own.traffic = new;
@@ -166,17 +128,10 @@ fn told(ch: Channel, first: Note, second: Note, ei: bool, er: bool, sent: bool) 
 fn finish(ch: Channel, a: Answer, rule: Rule, again: bool) -> Reply
     ensures { λ r. ⌜ r ≡ finished ch a rule again ⌝ }
 {
-    if is_done(a) {
+    if decision::refusals::is_done(a) {
         return moved(ch, rule, again, false, false);
     }
     refused(ch, a)
-}
-
-// The rule, or none where the call is not heeded.
-fn heed(heeded: bool, rule: Rule) -> Rule
-    ensures { λ r. ⌜ r ≡ cond heeded rule Keep ⌝ }
-{
-    if heeded { rule } else { Rule::Keep }
 }
 
 // A call by its number, with what the table's rows 4 and 6 say of it.
@@ -194,8 +149,8 @@ fn plain(ch: Channel, call: u8, passive: bool, off: bool, heeded: bool) -> Reply
         &ch.eira,
     );
     let rule = decision::rule_of(state, call);
-    let a = judge(ok, passive, off, decision::is_not_here(rule), false);
-    finish(ch, a, heed(heeded, rule), false)
+    let a = decision::refusals::judge(ok, passive, off, decision::is_not_here(rule), false);
+    finish(ch, a, decision::heed(heeded, rule), false)
 }
 
 // ---- status
@@ -407,8 +362,8 @@ impl Channel {
             &self.eira,
         );
         let elsewhere = decision::is_not_here(decision::rule_of(state, decision::STATUS));
-        let a = judge(ok, false, false, elsewhere, false);
-        if is_done(a) {
+        let a = decision::refusals::judge(ok, false, false, elsewhere, false);
+        if decision::refusals::is_done(a) {
             let era = vector_of(&self.own.era);
             let eira = vector_of(&self.eira);
             let count = count_of(&eira);
@@ -527,8 +482,8 @@ impl Channel {
         let ok = soundness::sound(c, t, m, self.own.traffic, &self.own.era, &self.eira);
         let rule = decision::rule_of(state, decision::RX_INDICATION);
         let size = choice::negation(pdu.len() as u64 == c.layout.length);
-        let a = judge(ok, false, false, decision::is_not_here(rule), size);
-        if is_done(a) {
+        let a = decision::refusals::judge(ok, false, false, decision::is_not_here(rule), size);
+        if decision::refusals::is_done(a) {
             if frames::accepted(c, m.filter, pdu) {
                 let again = frames::asks_repeat(c, pdu);
                 let er = frames::load_heard(c, t.reset, pdu, &mut self.own.era);
@@ -557,8 +512,8 @@ impl Channel {
         );
         let rule = decision::rule_of(state, decision::SET_USER_DATA);
         let size = choice::negation(bytes.len() as u64 == config::user_length(c));
-        let a = judge(ok, c.passive, false, decision::is_not_here(rule), size);
-        if is_done(a) {
+        let a = decision::refusals::judge(ok, c.passive, false, decision::is_not_here(rule), size);
+        if decision::refusals::is_done(a) {
             frames::store(bytes, &mut self.own.user);
             return moved(self, rule, false, false, false);
         }
@@ -583,8 +538,8 @@ impl Channel {
         let rule = decision::rule_of(state, decision::SET_PN_REQUESTS);
         let off = choice::negation(c.pn.on);
         let size = choice::negation(bytes.len() as u64 == c.pn.length);
-        let a = judge(ok, c.passive, off, decision::is_not_here(rule), size);
-        if is_done(a) {
+        let a = decision::refusals::judge(ok, c.passive, off, decision::is_not_here(rule), size);
+        if decision::refusals::is_done(a) {
             frames::store(bytes, &mut self.own.requests);
             return moved(self, rule, false, false, false);
         }
@@ -603,14 +558,14 @@ impl Channel {
         let ok = soundness::sound(c, t, m, old, &self.own.era, &self.eira);
         let rule = decision::rule_of(state, decision::MAIN_FUNCTION);
         let size = choice::negation(c.layout.length <= frame.len() as u64);
-        let a = judge(ok, false, false, decision::is_not_here(rule), size);
-        if is_done(a) {
+        let a = decision::refusals::judge(ok, false, false, decision::is_not_here(rule), size);
+        if decision::refusals::is_done(a) {
             // Steps a to d.
             let after = modes::mode_by(rule, false, t, m);
             let s = traffic::setup_of(c, t);
             let x = traffic::traffic_by(rule, false, s, m, after, old);
-            let first = traffic::notes::first_by(rule, m, after);
-            let second = traffic::notes::second_by(rule, m, old);
+            let first = notes::first_by(rule, m, after);
+            let second = notes::second_by(rule, m, old);
             // Step f without its frame, which no table and no byte of the channel depends on.
             let sent = choice::both(taken, traffic::is_due(s, after, x));
             let y = traffic::framing(s, after, taken, x);

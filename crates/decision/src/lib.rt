@@ -2,12 +2,15 @@
 //
 // Promises: each function is a definition of specs/, which also says what a call is refused with. Leaves to others: what
 // a rule does (`modes`, `traffic`).
+pub mod refusals;
 pub mod state;
 
 use self::state::State;
 ghost use mathlib.Core.Path.{_≡_};
 ghost use Prim.Native.Nat.{_+_, _*_};
 ghost use Rattle.decision.specs.State.{stateNumber, inNetwork, isBusSleep, isNormal, isPrepare, isRepeat, settled, transmits};
+ghost use mathlib.Core.Bool.{cond};
+ghost use Rattle.decision.specs.declared.Rule.the-variants.{Keep};
 ghost use Rattle.decision.specs.Decision.{isNotHere, ruleAt, ruleOf};
 
 // The calls by their number.
@@ -263,4 +266,11 @@ pub fn rule_of(s: State, call: u8) -> Rule
         return rule_at(5 * call + state_number(s));
     }
     Rule::Keep
+}
+
+// The rule, or none where the call is not heeded.
+pub fn heed(heeded: bool, rule: Rule) -> Rule
+    ensures { λ r. ⌜ r ≡ cond heeded rule Keep ⌝ }
+{
+    if heeded { rule } else { Rule::Keep }
 }

@@ -1,2 +1,1 @@
 pub mod Traffic
-pub mod Notes

@@ -1,9 +1,7 @@
-// Message and remote timers, fast count, indication and bits: what each transition rule does to them, and the notes that
-// it raises.
+// Message and remote timers, fast count, indication and bits: what each transition rule does to them.
 //
 // Promises: each function is a definition of specs/. It sees the mode before and after a rule. Leaves to others: the mode
-// itself (`modes`), the bytes of a frame (`frames`).
-pub mod notes;
+// itself (`modes`), what is told (`notes`), the bytes of a frame (`frames`).
 
 use config::Config;
 use config::Ticks;

@@ -4,7 +4,7 @@ use Rattle.decision.specs.Decision.{rxIndication}
 use Rattle.decision.specs.Refusals.{refusal}
 use Rattle.modes.specs.Mode.{modeBy}
 use Rattle.traffic.specs.Traffic.{trafficBy}
-use Rattle.traffic.specs.Notes.{firstBy, secondBy}
+use Rattle.notes.specs.Notes.{firstBy, secondBy}
 use Rattle.channel.specs.Channel.{
   againFor,
   answerOf,
