@@ -11,7 +11,8 @@ use lib.ListN.{length, take, drop, getD, set, length-take, length-drop, drop-of-
 use lib.Seq.{drop-cons, drop-set-lt, sets, take-suc, length-take-le, take-take, take-all, take-length, take-nil}
 use borrow.Author.Tests.{eq-eqb, ne-eqb, leb-true, leb-false}
 use Rattle.text.specs.Lines.{lineFeed}
-use Rattle.text.specs.Blocks.{kept, keeping, lineMost, wholeLen, wholeWith}
+use Rattle.text.specs.Filled.{filled}
+use Rattle.text.specs.Blocks.{keeping, lineMost, wholeLen, wholeWith}
 
 -- ---- looking for the last line feed from the end
 
@@ -121,7 +122,7 @@ count-kept l n from m h = rw (length-take m (drop from (take n l)), length-drop,
 
 -- the buffer l with a text in its first n bytes: a of them are in it, the unfinished line begins at f, and k bytes of it are kept
 pub keeping-by : (l : List ℕ) (n : ℕ) {a f k : ℕ} {m : List ℕ} → a ≡ min n (length l) → f ≡ wholeLen (take a l) → k ≡ min (a - f) (lineMost + 1)
-    → m ≡ sets l 0 (take k (drop f l)) → kept k m ≡ keeping n l
+    → m ≡ sets l 0 (take k (drop f l)) → filled k m ≡ keeping n l
 unfolding keeping
 keeping-by l n {a} {f} {k} {m} p q r s =
     let t : take a l ≡ take n l = rw p (take-min n l) in

@@ -3,8 +3,8 @@ use Prim.Native.Nat.{ℕ, zero, suc, _+_}
 use mathlib.Core.Bool.{Bool, cond}
 use mathlib.Core.List.{List, [], _∷_}
 use lib.Dec.{eqb}
-use lib.ListN.{length, take, drop}
-use lib.Seq.{sets}
+use lib.ListN.{take, drop}
+use Rattle.text.specs.Filled.{Filled, fill}
 use Rattle.text.specs.Lines.{lineFeed, linesOf}
 
 -- the most bytes that a line may have
@@ -33,14 +33,6 @@ wholeLines s = linesOf (take (wholeLen s) s)
 abbrev pub keptOf : List ℕ → List ℕ
 keptOf s = cut (drop (wholeLen s) s)
 
--- how many bytes are kept, and the buffer that has them in front
-pub record Kept : Type 0 where
-  pub count : ℕ
-  pub list : List ℕ
-
-abbrev pub kept : ℕ → List ℕ → Kept
-kept n l = record { count = n; list = l }
-
 -- the buffer after the text in its first n bytes was cut to what is kept
-unfoldable pub keeping : ℕ → List ℕ → Kept
-keeping n buf = kept (length (keptOf (take n buf))) (sets buf 0 (keptOf (take n buf)))
+unfoldable pub keeping : ℕ → List ℕ → Filled
+keeping n buf = fill buf (keptOf (take n buf))

@@ -7,7 +7,8 @@ ghost use mathlib.Core.Path.{_≡_};
 ghost use Prim.Native.Nat.{_+_, _≤_, min};
 ghost use lib.ListN.{length, take, drop};
 ghost use lib.Seq.{sets};
-ghost use Rattle.text.specs.Blocks.{kept, keeping, wholeLen};
+ghost use Rattle.text.specs.Blocks.{keeping, wholeLen};
+ghost use Rattle.text.specs.Filled.{filled};
 ghost use Rattle.text.specs.Lines.{lineFeed, readerAt, spanAt, until};
 
 // The byte that ends a line.
@@ -122,7 +123,7 @@ fn move_down(buf: &mut [u8], from: usize, n: usize)
 // Of the text in the first `n` bytes of the buffer, or in all of them where it has fewer, what is kept of the
 // unfinished line is moved to the front; answers how many bytes that are.
 pub fn keep_unfinished(buf: &mut [u8], n: usize) -> usize
-    ensures { λ r. ⌜ kept r (now (buf .exit)) ≡ keeping n (now (buf .entry)) ⌝ }
+    ensures { λ r. ⌜ filled r (now (buf .exit)) ≡ keeping n (now (buf .entry)) ⌝ }
 {
     let all = lesser(n, buf.len());
     let from = whole_len(&buf[..all]);
