@@ -1,0 +1,54 @@
+-- Laws of the fields of a line, for every place in it. Assumes nothing.
+use mathlib.Core.Path.{_≡_, refl, sym, ap, _∙_}
+use mathlib.Core.Bool.{Bool, true, false, cond}
+use mathlib.Core.List.{List, [], _∷_}
+use Prim.Native.Nat.{ℕ, zero, suc, _+_, _-_, _≤_, _<_}
+use native.Mathlib.Omega.{arith}
+use lib.Dec.{eqb, leb, leb·suc-suc}
+use lib.ListN.{length, take, drop, length-drop}
+use lib.Seq.{drop-drop}
+use borrow.Author.Tests.{le-leb, lt-leb, leb-true, leb-false}
+use Rattle.text.specs.Lines.{before, until}
+use Rattle.fields.specs.Fields.{fieldsOf, fieldsFrom, tab}
+
+fields-by : (x : ℕ) (xs : List ℕ) (t : Bool) → fieldsOf xs ≡ take (until tab xs) xs ∷ fieldsFrom xs (suc (until tab xs))
+    → cond t ([] ∷ fieldsOf xs) (before x (fieldsOf xs))
+    ≡ take (cond t zero (suc (until tab xs))) (x ∷ xs) ∷ fieldsFrom (x ∷ xs) (suc (cond t zero (suc (until tab xs))))
+unfolding fieldsOf fieldsFrom until
+fields-by x xs true ih = rw (le-leb 1 (suc (length xs)) (omega arith))
+fields-by x xs false ih = ap (before x) ih ∙ rw leb·suc-suc
+
+-- the fields of a line: the first, and those behind its tab, if there is one
+fields-step : (s : List ℕ) → fieldsOf s ≡ take (until tab s) s ∷ fieldsFrom s (suc (until tab s))
+unfolding fieldsOf fieldsFrom until
+fields-step [] = refl
+fields-step (x ∷ xs) = fields-by x xs (eqb x tab) (fields-step xs)
+
+-- two tests of the same fact
+same-leb : (a b c d : ℕ) → (a ≤ b → c ≤ d) → (b < a → d < c) → leb a b ≡ leb c d
+same-leb a b c d f g = go (leb a b) refl
+  where
+    go : (t : Bool) → leb a b ≡ t → leb a b ≡ leb c d
+    go true e = e ∙ sym (le-leb c d (f (leb-true a b e)))
+    go false e = e ∙ sym (lt-leb c d (g (leb-false a b e)))
+
+-- the fields from the start on are all
+pub fields-start : (s : List ℕ) → fieldsOf s ≡ fieldsFrom s 0
+unfolding fieldsFrom
+fields-start s = rw (le-leb 0 (length s) (omega arith))
+
+module _ (s : List ℕ) (at : ℕ) where
+  -- past the end there is no field
+  pub fields-end : length s < at → fieldsFrom s at ≡ []
+  unfolding fieldsFrom
+  fields-end h = rw (lt-leb at (length s) h)
+
+  -- the field at a place, and those behind it
+  pub fields-at : (e : ℕ) → at ≤ length s → e ≡ at + until tab (drop at s) → fieldsFrom s at ≡ take (e - at) (drop at s) ∷ fieldsFrom s (e + 1)
+  unfolding fieldsFrom
+  fields-at e h i =
+      let n = until tab (drop at s) in
+      let a : e - at ≡ n = omega arith in
+      let b : e + 1 ≡ at + suc n = omega arith in
+      let d : length (drop at s) ≡ length s - at = length-drop at s in
+      rw (le-leb at (length s) h, fields-step (drop at s), a, b, drop-drop (suc n) at s, same-leb (suc n) (length (drop at s)) (at + suc n) (length s) (λ x. omega arith) (λ x. omega arith))

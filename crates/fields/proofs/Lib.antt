@@ -1,0 +1,5 @@
+pub mod Fields
+pub mod Filling
+pub mod Numbers
+pub mod Hex
+pub mod Packing
