@@ -1,6 +1,5 @@
 -- `decision::rule_at` meets its contract: a key by itself, or one of a run. Assumes nothing.
-use mathlib.Core.Path.{_≡_, refl, sym}
-use Prim.Native.Nat.{ℕ, _+_, _≤_}
+use mathlib.Core.Path.{refl, sym}
 use native.Mathlib.Omega.{arith}
 use lib.ListN.{List·getD-eq-default}
 use Rattle.decision.specs.declared.Rule.the-variants.{
@@ -17,13 +16,9 @@ use Rattle.decision.specs.declared.Rule.the-variants.{
   FilterOn,
 }
 use Rattle.decision.specs.Decision.{ruleAt, table}
-use Rattle.decision.proofs.Table.{run-at}
+use Rattle.decision.proofs.Table.{next, run-at}
 use Rattle.decision.proofs.rule_at.Statement.{statement}
 use Rattle.decision.proofs.rule_at.Tie as tie
-
--- a key that is at least k and not k
-next : {k key : ℕ} → k ≤ key → (key ≡ k → ⊥) → k + 1 ≤ key
-next h n = omega arith
 
 pub rule-at-spec : {M : Type 1} → statement M
 unfolding ruleAt table

@@ -1,0 +1,26 @@
+-- `commands::alone` meets its contract: a name by its number, or one outside the table's calls. Assumes nothing.
+use mathlib.Core.Path.{refl, sym}
+use native.Mathlib.Omega.{arith}
+use lib.ListN.{List·getD-eq-default}
+use Rattle.decision.proofs.Table.{next, run-at}
+use Rattle.commands.specs.declared.Asked.the-variants.{Unreadable}
+use Rattle.commands.specs.Commands.{alone, aloneTable}
+use Rattle.commands.proofs.alone.Statement.{statement}
+use Rattle.commands.proofs.alone.Tie as tie
+
+pub alone-spec : {M : Type 1} → statement M
+unfolding alone
+alone-spec =
+    tie.close
+    (tie.spec
+    (λ c. rw (c .match .keys1))
+    (λ c. rw (c .match .keys2))
+    (λ c. rw (c .match .keys3))
+    (λ c. rw (c .match .keys4))
+    (λ c. rw (c .match .keys5))
+    (λ c. rw (c .match .keys6))
+    (λ c. rw (c .match .keys7))
+    (λ c. rw (c .match .keys8))
+    (λ c. rw (c .match .keys9))
+    (λ c. sym (run-at aloneTable Unreadable Unreadable 0 2 (c .before .before .args .name) refl (omega arith) (c .if1 .taken)))
+    (λ c. sym (List·getD-eq-default aloneTable Unreadable {n = c .before .before .args .name} (next {k = 10} (next {k = 9} (next {k = 8} (next {k = 7} (next {k = 6} (next {k = 5} (next {k = 4} (next {k = 3} (next {k = 2} (c .if1 .left) (c .before .match .rest .0 .0 .0 .0 .0 .0 .0 .0 .1)) (c .before .match .rest .0 .0 .0 .0 .0 .0 .0 .1)) (c .before .match .rest .0 .0 .0 .0 .0 .0 .1)) (c .before .match .rest .0 .0 .0 .0 .0 .1)) (c .before .match .rest .0 .0 .0 .0 .1)) (c .before .match .rest .0 .0 .0 .1)) (c .before .match .rest .0 .0 .1)) (c .before .match .rest .0 .1)) (c .before .match .rest .1)))))
