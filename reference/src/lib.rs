@@ -12,6 +12,7 @@
 
 pub mod answer;
 pub mod book;
+pub mod call;
 pub mod channel;
 pub mod config;
 pub mod filter;
