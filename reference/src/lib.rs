@@ -21,3 +21,4 @@ pub mod pdu;
 pub mod pnc;
 pub mod rng;
 pub mod ticks;
+pub mod trace;
