@@ -90,6 +90,19 @@ pub enum Note {
 }
 
 impl Note {
+    /// All notes, each at the place of its number from 0.
+    pub const ALL: [Note; 9] = [
+        Note::NM,
+        Note::ST,
+        Note::PB,
+        Note::BS,
+        Note::TO,
+        Note::RC,
+        Note::RI,
+        Note::EI,
+        Note::ER,
+    ];
+
     /// The two letters.
     pub fn letters(self) -> &'static str {
         match self {

@@ -184,6 +184,7 @@ pub type Room = [u8; MAX_HEX_BYTES];
 /// that is not too long.
 fn read_hex<'a>(hex: &[u8], room: &'a mut Room) -> Readable<&'a [u8]> {
     let pairs = hex.chunks_exact(2);
+    let is_odd = !pairs.remainder().is_empty();
     let bytes = &mut room[..pairs.len()];
     let mut seen = 0;
     for (byte, pair) in bytes.iter_mut().zip(pairs) {
@@ -191,7 +192,7 @@ fn read_hex<'a>(hex: &[u8], room: &'a mut Room) -> Readable<&'a [u8]> {
         seen |= high | low;
         *byte = high << 4 | low;
     }
-    if hex.is_empty() || hex.len() % 2 != 0 || seen & NO_DIGIT != 0 {
+    if hex.is_empty() || is_odd || seen & NO_DIGIT != 0 {
         return Err(why_not_hex(hex));
     }
     Ok(bytes)
