@@ -817,6 +817,9 @@ impl LongTrace {
         }
         out.extend_from_slice(b"REL\n");
         for _ in 0..LONG_SLEEP + self.rng.below(100) {
+            if self.rng.chance(300) {
+                self.append_pdu(out);
+            }
             out.extend_from_slice(b"T\t1\n");
         }
     }
