@@ -165,7 +165,7 @@ cases! {
     Dropped "RX: dropped in Bus-Sleep"
     FilterOn "RX: filter on"
     TickDisabled "T: sending disabled"
-    LongRun "T: a run of more than 100 ticks"
+    LongRun "T: 100 in a row"
 }
 
 /// Ticks until asleep that count as long, and ticks in a row.

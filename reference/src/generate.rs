@@ -1,8 +1,8 @@
-//! Traces made at random: short ones that look for trouble, and long ones as a
-//! bus would give them.
+//! Traces made at random: hard ones, with states, configurations and lines of
+//! every kind, and long ones as a node on a bus would give them.
 //!
-//! They only have to be hard, so nothing here asks whether a line can be read
-//! or a configuration passes; `counts` tells what a set of traces reached.
+//! What is damaged here is not checked for what it has become; `counts` tells
+//! what a set of traces reached.
 
 use crate::channel::Channel;
 use crate::config::{checked_times, Config, Position, Times, MAX_BYTES};
@@ -99,6 +99,10 @@ type Fields = Vec<Vec<u8>>;
 
 fn fields(texts: &[&str]) -> Fields {
     texts.iter().map(|text| text.as_bytes().to_vec()).collect()
+}
+
+fn one_of(rng: &mut Rng, texts: &[&str]) -> Vec<u8> {
+    rng.pick(texts).as_bytes().to_vec()
 }
 
 fn hex(bytes: &[u8]) -> String {
@@ -326,15 +330,10 @@ fn misspell(rng: &mut Rng, line: &mut Fields) {
     let is_cfg = line[0] == b"CFG";
     let (switch, last) = if is_cfg { (10, 14) } else { (4, 5) };
     match rng.below(6) {
-        0 => {
-            line[switch] = rng
-                .pick(&["", "2", "01", "00", "10", "-"])
-                .as_bytes()
-                .to_vec()
-        }
+        0 => line[switch] = one_of(rng, &["", "2", "01", "00", "10", "-"]),
         1 | 2 if is_cfg => {
             let position = 12 + rng.below(2) as usize;
-            line[position] = rng.pick(&["", "2", "00", "01", "--"]).as_bytes().to_vec();
+            line[position] = one_of(rng, &["", "2", "00", "01", "--"]);
         }
         1 | 2 => {
             let mask = &mut line[last];
@@ -369,7 +368,7 @@ fn damage(rng: &mut Rng, line: &mut Fields) {
         0 => drop(line.remove(place)),
         1 => line.insert(place, Vec::new()),
         2 => line.push(Vec::new()),
-        3 => line.push(rng.pick(&["0", "1", "00", "REQ"]).as_bytes().to_vec()),
+        3 => line.push(one_of(rng, &["0", "1", "00", "REQ"])),
         4 => line[place].clear(),
         5 => line[place].insert(0, b'0'),
         // One digit too many.
@@ -388,8 +387,8 @@ fn damage(rng: &mut Rng, line: &mut Fields) {
                 field[at] = *rng.pick(&ODD_BYTES);
             }
         }
-        12 => line[place] = rng.pick(&ODD_FIELDS).as_bytes().to_vec(),
-        13 => line[0] = rng.pick(&ODD_NAMES).as_bytes().to_vec(),
+        12 => line[place] = one_of(rng, &ODD_FIELDS),
+        13 => line[0] = one_of(rng, &ODD_NAMES),
         14 => line[place].push(b'\r'),
         _ => {
             // Some byte strings lose an even number of digits and so stay

@@ -1,11 +1,12 @@
 //! A second, plain implementation of one CanNm channel, written from the
-//! requirement paper alone. It exists to be compared with the product, so it
-//! favours directness over speed and shares no code with it.
+//! requirement paper alone. It exists to be compared with the product, in what
+//! it gives and in how long it takes, and shares no code with it.
 //!
 //! "Rule n" in the comments is configuration rule n of paper 01; a "refusal"
 //! is an answer other than 0 from its table of answers.
 //!
-//! Nothing here allocates: byte strings are borrowed from the caller.
+//! Channel and trace allocate nothing for a call or a line: byte strings are
+//! borrowed from the caller.
 
 #![forbid(unsafe_code)]
 #![warn(missing_docs)]

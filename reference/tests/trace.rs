@@ -12,7 +12,10 @@ use cannm_reference::trace::{
     is_pn_line, read_call, read_cfg, read_pn, run, Lines, Trace, BLOCK, MAX_HEX_BYTES, MAX_LINE,
     MAX_PRINTED,
 };
+use std::fs::{self, File};
 use std::io::{self, ErrorKind, Read, Write};
+use std::path::Path;
+use std::process::{Command, Output, Stdio};
 
 /// The configuration of the paper's example; in ticks T 5, W 3, R 4, C 2. In
 /// these tests blanks stand for tabs.
@@ -784,6 +787,93 @@ fn a_failing_input_ends_the_run() {
     let error = run(Failing(false), &mut out).unwrap_err();
     assert_eq!(error.kind(), ErrorKind::Other);
     assert_eq!(out, b"1\t0\tB\t-\t-\n2\t0\tR\tNM\t-\n");
+}
+
+// The programs.
+
+const TRACE: &str = env!("CARGO_BIN_EXE_cannm_reference_trace");
+const TRACES: &str = env!("CARGO_BIN_EXE_cannm_traces");
+const TRACE_COUNTS: &str = env!("CARGO_BIN_EXE_cannm_trace_counts");
+
+fn program(name: &str, arguments: &[&str]) -> Output {
+    let mut command = Command::new(name);
+    command.args(arguments).stdin(Stdio::null());
+    command.output().unwrap()
+}
+
+/// A program that failed says so in one line, without a panic.
+fn check_failed(output: &Output, status: i32) {
+    let message = String::from_utf8_lossy(&output.stderr);
+    assert_eq!(output.status.code(), Some(status), "{message}");
+    assert_eq!(message.lines().count(), 1, "{message}");
+    assert!(!message.contains("panicked"), "{message}");
+}
+
+#[test]
+fn programs_make_run_and_count_traces() {
+    let folder = Path::new(env!("CARGO_TARGET_TMPDIR")).join("traces");
+    let place = folder.to_str().unwrap();
+    let made = program(TRACES, &["3", "30", place]);
+    assert!(made.status.success() && made.stdout.is_empty());
+    for (number, text) in hard_traces(3).take(30).enumerate() {
+        let file = folder.join(format!("{number:05}.trace"));
+        assert_eq!(fs::read(&file).unwrap(), text);
+        let ran = program(TRACE, &[file.to_str().unwrap()]);
+        assert!(ran.status.success());
+        assert_eq!(ran.stdout, output(&text));
+    }
+    // So few traces do not show every kind.
+    let counted = program(TRACE_COUNTS, &[place]);
+    check_failed(&counted, 1);
+    let expected = Kind::all().len() + 1;
+    assert_eq!(lines_of(&counted.stdout).count(), expected);
+    fs::remove_dir_all(&folder).unwrap();
+
+    let long = program(TRACES, &["3", "200000", "-"]);
+    assert!(long.status.success());
+    assert!((200_000..300_000).contains(&long.stdout.len()));
+    assert!(program(TRACE, &[]).stdout.is_empty());
+}
+
+#[test]
+fn programs_that_cannot_go_on() {
+    check_failed(&program(TRACE, &["no such file"]), 1);
+    check_failed(&program(TRACE, &["one", "two"]), 2);
+    check_failed(&program(TRACE_COUNTS, &["no such folder"]), 1);
+    check_failed(&program(TRACE_COUNTS, &[]), 2);
+    check_failed(&program(TRACES, &["1", "x", "-"]), 2);
+    check_failed(&program(TRACES, &["1", "2"]), 2);
+}
+
+#[test]
+fn a_closed_or_full_output_ends_the_programs() {
+    // Far more than the programs write before they find the output closed.
+    let mut children = vec![Command::new(TRACES)
+        .args(["1", "1000000000000", "-"])
+        .stdout(Stdio::piped())
+        .stderr(Stdio::piped())
+        .spawn()
+        .unwrap()];
+    let ticks = children[0].stdout.take().unwrap();
+    let mut child = Command::new(TRACE)
+        .stdin(ticks)
+        .stdout(Stdio::piped())
+        .stderr(Stdio::piped())
+        .spawn()
+        .unwrap();
+    let mut first = [0; 10];
+    child.stdout.take().unwrap().read_exact(&mut first).unwrap();
+    assert_eq!(&first, b"1\t0\tB\t-\t-\n");
+    children.push(child);
+    for child in children {
+        check_failed(&child.wait_with_output().unwrap(), 1);
+    }
+
+    if let Ok(full) = File::options().write(true).open("/dev/full") {
+        let mut command = Command::new(TRACES);
+        command.args(["1", "100000", "-"]).stdout(full);
+        check_failed(&command.output().unwrap(), 1);
+    }
 }
 
 // Traces made at random.
