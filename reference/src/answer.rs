@@ -15,6 +15,8 @@ pub const PASSIVE: u8 = 4;
 pub const WRONG_LENGTH: u8 = 5;
 /// Answer 6: the call needs PN, and PN is off.
 pub const PN_OFF: u8 = 6;
+/// Answer 7: a trace line that can't be read.
+pub const UNREADABLE: u8 = 7;
 
 /// Why a call was refused.
 #[derive(Clone, Copy, Debug, PartialEq, Eq)]

@@ -8,41 +8,7 @@ use crate::config::{checked_times, Config};
 use crate::filter::pn_filter;
 use crate::pdu::{read_fields, REPEAT_BIT};
 
-/// A call on a channel with its arguments.
-#[derive(Clone, Copy, Debug, PartialEq, Eq)]
-pub enum Call<'a> {
-    /// The node requests the network.
-    NetworkRequest,
-    /// The node releases the network.
-    NetworkRelease,
-    /// Passive start-up.
-    PassiveStartUp,
-    /// The node asks for Repeat.
-    RepeatMessageRequest,
-    /// Sending is disabled.
-    DisableCommunication,
-    /// Sending is enabled.
-    EnableCommunication,
-    /// The driver's word on a frame, true if it went well.
-    TxConfirmation(bool),
-    /// The bytes of a PDU that came in.
-    RxIndication(&'a [u8]),
-    /// The filter may go on.
-    ConfirmPnAvailability,
-    /// New user data.
-    SetUserData(&'a [u8]),
-    /// New PN requests.
-    SetPnRequests(&'a [u8]),
-    /// The status is asked for.
-    Status,
-    /// A tick.
-    MainFunction {
-        /// Whether the driver would take a frame.
-        taken: bool,
-        /// The length of the frame buffer lent.
-        frame_len: usize,
-    },
-}
+pub use crate::call::Call;
 
 /// The book.
 #[derive(Clone, Copy, Debug, PartialEq, Eq)]

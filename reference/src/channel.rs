@@ -90,6 +90,19 @@ pub enum Note {
 }
 
 impl Note {
+    /// All notes, each at the place of its number from 0.
+    pub const ALL: [Note; 9] = [
+        Note::NM,
+        Note::ST,
+        Note::PB,
+        Note::BS,
+        Note::TO,
+        Note::RC,
+        Note::RI,
+        Note::EI,
+        Note::ER,
+    ];
+
     /// The two letters.
     pub fn letters(self) -> &'static str {
         match self {
@@ -333,10 +346,15 @@ impl Channel {
 
     /// Whether the channel keeps all that the paper demands of a sound state.
     pub fn is_sound(&self) -> bool {
+        self.is_sound_with(self.vectors())
+    }
+
+    /// The same; `vectors` are those of this channel.
+    fn is_sound_with(&self, vectors: Vectors) -> bool {
         passes_with(&self.config, &self.times)
             && self.timers_are_sound()
             && self.flags_are_sound()
-            && self.pn_timers_are_sound()
+            && self.pn_timers_are_sound(vectors)
     }
 
     /// Each timer is within its time while it runs, and 0 otherwise.
@@ -383,13 +401,15 @@ impl Channel {
 
     /// PN timers are within P, and run in the mask only. With PN off there is
     /// no mask.
-    fn pn_timers_are_sound(&self) -> bool {
-        let outside = !self.mask_bits();
-        let fit = |timers: &[u16; PN_BITS]| {
-            let largest = timers.iter().copied().fold(0, u16::max);
-            u64::from(largest) <= self.times.pn_reset && running(timers) & outside == 0
+    fn pn_timers_are_sound(&self, vectors: Vectors) -> bool {
+        let most = u16::try_from(self.times.pn_reset).unwrap_or(u16::MAX);
+        let within = |timers: &[u16; PN_BITS]| {
+            let excess = timers.iter().map(|timer| timer.saturating_sub(most));
+            excess.fold(0, |all, one| all | one) == 0
         };
-        fit(&self.era) && fit(&self.eira)
+        (vectors.era | vectors.eira) & !self.mask_bits() == 0
+            && within(&self.era)
+            && within(&self.eira)
     }
 
     /// The network is requested by this node. Answers 4 on a passive channel.
@@ -505,12 +525,10 @@ impl Channel {
             if channel.filter_on && !channel.config.all_keep_awake && wanted == 0 {
                 return;
             }
-            let before = channel.vectors();
             let reset = channel.times.pn_reset;
             load(&mut channel.era, wanted, reset);
             load(&mut channel.eira, wanted, reset);
             channel.hear(fields.cbv & REPEAT_BIT != 0, &mut reply.notes);
-            channel.note_vectors(before, &mut reply.notes);
         })
     }
 
@@ -551,7 +569,8 @@ impl Channel {
 
     /// State, both vectors, and number and lowest of the PNCs in EIRA.
     pub fn status(&self) -> Status {
-        if let Some(answer) = self.refusal(&Needs::NOTHING) {
+        let vectors = self.vectors();
+        if let Some(answer) = self.refusal(&Needs::NOTHING, vectors) {
             return Status {
                 answer,
                 state: 0,
@@ -561,7 +580,7 @@ impl Channel {
                 lowest: PncNumber(0),
             };
         }
-        let Vectors { era, eira } = self.vectors();
+        let Vectors { era, eira } = vectors;
         let lowest_bit = BitIndex(u64::from(eira.trailing_zeros()));
         Status {
             answer: DONE,
@@ -584,7 +603,6 @@ impl Channel {
             ..Needs::NOTHING
         };
         self.answer(needs, |channel, reply| {
-            let before = channel.vectors();
             // A timer of a state that is entered in this tick waits for the
             // next one.
             let at_start = channel.state;
@@ -594,24 +612,27 @@ impl Channel {
             channel.count_remote_timer(at_start, &mut reply.notes);
             channel.count_pn_timers();
             reply.frame = channel.count_message_timer(taken, frame);
-            channel.note_vectors(before, &mut reply.notes);
         })
     }
 
-    /// Carries the call out unless it is refused.
+    /// Carries the call out unless it is refused; a change of a vector is noted
+    /// after all that the call itself notes.
     fn answer(&mut self, needs: Needs, act: impl FnOnce(&mut Channel, &mut Reply)) -> Reply {
-        if let Some(answer) = self.refusal(&needs) {
+        let before = self.vectors();
+        if let Some(answer) = self.refusal(&needs, before) {
             return Reply::refused(answer);
         }
         let mut reply = Reply::QUIET;
         act(self, &mut reply);
+        self.note_vectors(before, &mut reply.notes);
         reply
     }
 
-    /// The first answer that refuses a call with these needs. Answer 2 is not
-    /// among them: no configuration comes in.
-    fn refusal(&self, needs: &Needs) -> Option<u8> {
-        if !self.is_sound() {
+    /// The first answer that refuses a call with these needs; `vectors` are
+    /// those of this channel. Answer 2 is not among them: no configuration
+    /// comes in.
+    fn refusal(&self, needs: &Needs, vectors: Vectors) -> Option<u8> {
+        if !self.is_sound_with(vectors) {
             Some(NOT_SOUND)
         } else if needs.active && self.config.passive {
             Some(PASSIVE)
@@ -871,9 +892,16 @@ fn load(timers: &mut [u16; PN_BITS], mut wanted: u64, reset: u64) {
 
 /// The vector of the timers that are not 0.
 fn running(timers: &[u16; PN_BITS]) -> u64 {
-    timers
-        .iter()
-        .enumerate()
-        .map(|(bit, timer)| u64::from(*timer != 0) << bit)
-        .fold(0, |vector, bit| vector | bit)
+    let flags = timers.map(|timer| u8::from(timer != 0));
+    let mut vector = 0;
+    for eight in flags.rchunks_exact(8) {
+        let mut bytes = [0; 8];
+        bytes.copy_from_slice(eight);
+        // The product has the flag of timer k at bit 56 + k: 8 k of its own
+        // place and 56 - 7 k of the factor's bit. No other sum of a place and
+        // a bit comes to the same, so that nothing is carried.
+        let gathered = u64::from_le_bytes(bytes).wrapping_mul(0x0102_0408_1020_4080);
+        vector = vector << 8 | gathered >> 56;
+    }
+    vector
 }

@@ -3,7 +3,7 @@
 
 use cannm_reference::answer::DONE;
 use cannm_reference::book::{Book, Call};
-use cannm_reference::channel::{initialise, Channel, Note, Notes, Reply, State, PN_BITS};
+use cannm_reference::channel::{initialise, Channel, Note, Reply, State, PN_BITS};
 use cannm_reference::config::{checked_times, first_broken_rule, Config, Position, Times};
 use cannm_reference::pdu;
 use cannm_reference::pnc::PncNumber;
@@ -72,31 +72,6 @@ const REPEAT_PDU: [u8; 8] = [7, 1, 0, 0, 0, 0, 0, 0];
 const UNTOUCHED: u8 = 0xEE;
 const BUFFER_LEN: usize = 12;
 
-/// Carries a call out on the channel alone.
-fn perform(channel: &mut Channel, call: &Call, buffer: &mut [u8; BUFFER_LEN]) -> Reply {
-    match *call {
-        Call::NetworkRequest => channel.network_request(),
-        Call::NetworkRelease => channel.network_release(),
-        Call::PassiveStartUp => channel.passive_start_up(),
-        Call::RepeatMessageRequest => channel.repeat_message_request(),
-        Call::DisableCommunication => channel.disable_communication(),
-        Call::EnableCommunication => channel.enable_communication(),
-        Call::TxConfirmation(good) => channel.tx_confirmation(good),
-        Call::RxIndication(pdu) => channel.rx_indication(pdu),
-        Call::ConfirmPnAvailability => channel.confirm_pn_availability(),
-        Call::SetUserData(bytes) => channel.set_user_data(bytes),
-        Call::SetPnRequests(bytes) => channel.set_pn_requests(bytes),
-        Call::Status => Reply {
-            answer: channel.status().answer,
-            notes: Notes::NONE,
-            frame: false,
-        },
-        Call::MainFunction { taken, frame_len } => {
-            channel.main_function(taken, &mut buffer[..frame_len])
-        }
-    }
-}
-
 /// A channel and the book of its calls.
 #[derive(Clone, Copy)]
 struct Bench {
@@ -120,7 +95,7 @@ impl Bench {
         let before = self.channel;
         let mut buffer = [UNTOUCHED; BUFFER_LEN];
         let expected = self.book.answer(call);
-        let reply = perform(&mut self.channel, call, &mut buffer);
+        let reply = call.perform(&mut self.channel, &mut buffer);
         let due = self.book.step(call);
         let after = &self.channel;
 
@@ -975,7 +950,7 @@ fn check_unsound(channel: &Channel) {
     for call in calls {
         let mut handed_in = *channel;
         let mut buffer = [UNTOUCHED; BUFFER_LEN];
-        let reply = perform(&mut handed_in, &call, &mut buffer);
+        let reply = call.perform(&mut handed_in, &mut buffer);
         assert_eq!((reply.answer, reply.frame), (1, false));
         assert_eq!(reply.notes.as_slice(), []);
         assert_eq!(handed_in, *channel);
@@ -1014,7 +989,7 @@ fn sound_is_what_the_list_says() {
                     let call = random_call(&mut rng, &channel.config, &mut bytes);
                     let mut buffer = [UNTOUCHED; BUFFER_LEN];
                     let before = channel;
-                    let reply = perform(&mut channel, &call, &mut buffer);
+                    let reply = call.perform(&mut channel, &mut buffer);
                     assert!(channel.is_sound(), "{call:?} on {before:?}");
                     assert!(reply.answer == DONE || channel == before);
                 }
