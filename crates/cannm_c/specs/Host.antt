@@ -3,19 +3,24 @@ use Prim.Native.Nat.{ℕ}
 use mathlib.Core.Bool.{cond, not}
 use mathlib.Core.List.{List}
 use lib.Dec.{eqb}
+use Rattle.answers.specs.declared.Answer.{Answer}
+use Rattle.answers.specs.declared.Answer.the-variants.{Done, Rule}
 use Rattle.answers.specs.Answers.{numberOf, ruleOf}
 use Rattle.ticks.specs.declared.Conversion.{Conversion}
 use Rattle.ticks.specs.Ticks.{conversionOf}
 use Rattle.config.specs.declared.Layout.{Layout}
 use Rattle.pdu.specs.Pdu.{Taken, headerReading}
-use Rattle.pdu.specs.Filter.{verdictOf, verdictNumber, verdictValue}
+use Rattle.pdu.specs.Filter.{verdictOf, verdictAnswer, verdictValue}
 use Rattle.cannm_c.specs.declared.TicksResult.{TicksResult}
 use Rattle.cannm_c.specs.declared.FilterResult.{FilterResult}
 use Rattle.cannm_c.specs.declared.HeaderResult.{HeaderResult}
 
--- the conversion: answer 2 where a rule is broken
+-- the conversion: a broken rule is an answer of its own
+abbrev pub ruled : ℕ → Answer
+ruled rule = cond (eqb rule 0) Done (Rule rule)
+
 abbrev pub converted : Conversion → TicksResult
-converted t = record { answer = cond (eqb (t .rule) 0) 0 2; rule = t .rule; ticks = t .ticks }
+converted t = record { answer = numberOf (ruled (t .rule)); rule = ruleOf (ruled (t .rule)); ticks = t .ticks }
 
 unfoldable pub convertedFor : ℕ → ℕ → TicksResult
 convertedFor period ms = converted (conversionOf period ms)
@@ -24,7 +29,7 @@ convertedFor period ms = converted (conversionOf period ms)
 unfoldable pub decidedFor : ℕ → ℕ → List ℕ → List ℕ → FilterResult
 decidedFor awake cbv pn mask =
     record {
-      answer = verdictNumber (verdictOf (not (eqb awake 0)) cbv pn mask);
+      answer = numberOf (verdictAnswer (verdictOf (not (eqb awake 0)) cbv pn mask));
       keep = verdictValue (verdictOf (not (eqb awake 0)) cbv pn mask);
     }
 

@@ -3,9 +3,10 @@
 //
 // Promises: every answer with its values, refused ones 0, for every number of 32 bits and every byte string. Leaves to
 // others: a channel and its state.
+use answers::Answer;
 use config::Layout;
 ghost use mathlib.Core.Path.{_≡_};
-ghost use Rattle.cannm_c.specs.Host.{convertedFor, decidedFor, readFor};
+ghost use Rattle.cannm_c.specs.Host.{convertedFor, decidedFor, readFor, ruled};
 
 #[repr(C)]
 pub struct TicksResult {
@@ -28,15 +29,26 @@ pub struct HeaderResult {
     pub cbv: u32,
 }
 
+// The answer by the rule that is broken, 0 for none.
+fn ruled(rule: u8) -> Answer
+    ensures { λ r. ⌜ r ≡ ruled rule ⌝ }
+{
+    if rule == 0 {
+        return Answer::Done;
+    }
+    Answer::Rule(rule)
+}
+
 // Milliseconds in ticks.
 #[no_mangle]
 pub extern "C" fn cannm_ticks(period: u32, ms: u32) -> TicksResult
     ensures { λ r. ⌜ r ≡ convertedFor period ms ⌝ }
 {
     let t = ticks::to_ticks(period as u64, ms as u64);
+    let a = ruled(t.rule);
     TicksResult {
-        answer: choice::pick32(t.rule == 0, 0, 2),
-        rule: t.rule as u32,
+        answer: answers::number(a) as u32,
+        rule: answers::rule(a) as u32,
         ticks: t.ticks as u32,
     }
 }
@@ -48,7 +60,7 @@ pub extern "C" fn cannm_pn_filter(awake: u32, cbv: u32, pn: &[u8], mask: &[u8]) 
 {
     let v = pdu::filter::decide(awake != 0, cbv, pn, mask);
     FilterResult {
-        answer: pdu::filter::number(v) as u32,
+        answer: answers::number(pdu::filter::answer(v)) as u32,
         keep: pdu::filter::value(v) as u32,
     }
 }

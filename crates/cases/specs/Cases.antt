@@ -12,7 +12,7 @@ use Rattle.config.specs.Ranges.{off}
 use Rattle.config.specs.Rules.{firstBroken}
 use Rattle.answers.specs.Answers.{numberOf}
 use Rattle.pdu.specs.declared.filter.Verdict.{Verdict}
-use Rattle.pdu.specs.Filter.{verdictOf, verdictNumber, verdictValue}
+use Rattle.pdu.specs.Filter.{verdictOf, verdictAnswer, verdictValue}
 use Rattle.decision.specs.declared.state.Note.{Note}
 use Rattle.decision.specs.declared.state.Note.the-variants.{
   Nothing,
@@ -49,7 +49,7 @@ breaks c rule = record { got = firstBroken c ∷ []; wanted = rule ∷ [] }
 
 -- the filter keeps (1) or drops (0) a PDU with these PN bytes
 abbrev decided : Verdict → List ℕ
-decided v = verdictNumber v ∷ verdictValue v ∷ []
+decided v = numberOf (verdictAnswer v) ∷ verdictValue v ∷ []
 
 abbrev pub judges : List ℕ → List ℕ → ℕ → Case
 judges mask pn keep = record { got = decided (verdictOf false 64 pn mask); wanted = 0 ∷ keep ∷ [] }

@@ -14,6 +14,7 @@ use Rattle.pdu.specs.Pdu.{
   byteAt,
   composed,
   composing,
+  fieldsOf,
   frameOf,
   headerReading,
   ofLengths,
@@ -33,6 +34,11 @@ module _ (c : Config) (f : Fields) (frame : List ℕ) where
   composes-not r e = rw (e, r)
 
 module _ (c : Config) (pdu pn user : List ℕ) where
+  pub reads : firstBroken c ≡ 0 → (ofLengths c (length pn) (length user) && eqb (length pdu) (c .layout .length)) ≡ true
+      → taken Done (fieldsOf c pdu) ≡ reading c pdu pn user
+  unfolding reading
+  reads r e = rw (e, r)
+
   pub reads-not : firstBroken c ≡ 0 → (ofLengths c (length pn) (length user) && eqb (length pdu) (c .layout .length)) ≡ false
       → taken Length (fields 0 0 pn user) ≡ reading c pdu pn user
   unfolding reading

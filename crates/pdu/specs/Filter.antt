@@ -4,6 +4,8 @@ use mathlib.Core.Bool.{Bool, cond, _&&_, _||_}
 use mathlib.Core.List.{List}
 use lib.Dec.{eqb}
 use lib.ListN.{length}
+use Rattle.answers.specs.declared.Answer.{Answer}
+use Rattle.answers.specs.declared.Answer.the-variants.{Done, Length}
 use Rattle.bits.specs.Bits.{bitOf, someMasked}
 use Rattle.pdu.specs.declared.filter.Verdict.{Verdict}
 use Rattle.pdu.specs.declared.filter.Verdict.the-variants.{Kept, Dropped, Unequal}
@@ -20,11 +22,11 @@ keeps awake cbv pn mask = awake || informs cbv && someMasked pn mask
 unfoldable pub verdictOf : Bool → ℕ → List ℕ → List ℕ → Verdict
 verdictOf awake cbv pn mask = cond (eqb (length pn) (length mask)) (cond (keeps awake cbv pn mask) Kept Dropped) Unequal
 
--- a verdict's answer number, and the value beside it: 1 for kept
-abbrev pub verdictNumber : Verdict → ℕ
-verdictNumber Kept = 0
-verdictNumber Dropped = 0
-verdictNumber Unequal = 5
+-- a verdict's answer, and the value beside it: 1 for kept
+abbrev pub verdictAnswer : Verdict → Answer
+verdictAnswer Kept = Done
+verdictAnswer Dropped = Done
+verdictAnswer Unequal = Length
 
 abbrev pub verdictValue : Verdict → ℕ
 verdictValue Kept = 1

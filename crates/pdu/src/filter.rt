@@ -1,6 +1,7 @@
 // The partial-network filter.
+use answers::Answer;
 ghost use mathlib.Core.Path.{_≡_};
-ghost use Rattle.pdu.specs.Filter.{informs, keeps, verdictNumber, verdictOf, verdictValue};
+ghost use Rattle.pdu.specs.Filter.{informs, keeps, verdictAnswer, verdictOf, verdictValue};
 
 pub enum Verdict {
     Kept,
@@ -39,14 +40,14 @@ pub fn decide(awake: bool, cbv: u32, pn: &[u8], mask: &[u8]) -> Verdict
     Verdict::Unequal
 }
 
-// The answer's number.
-pub fn number(v: Verdict) -> u8
-    ensures { λ r. ⌜ r ≡ verdictNumber v ⌝ }
+// The answer that goes with a verdict.
+pub fn answer(v: Verdict) -> Answer
+    ensures { λ r. ⌜ r ≡ verdictAnswer v ⌝ }
 {
     match v {
-        Verdict::Kept => 0,
-        Verdict::Dropped => 0,
-        Verdict::Unequal => 5,
+        Verdict::Kept => Answer::Done,
+        Verdict::Dropped => Answer::Done,
+        Verdict::Unequal => Answer::Length,
     }
 }
 

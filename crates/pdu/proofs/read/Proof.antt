@@ -5,12 +5,11 @@ use borrow.Author.Tests.{ne-eqb}
 use Rattle.answers.specs.declared.Answer.the-variants.{Done}
 use Rattle.pdu.specs.Pdu.{reading, taken}
 use Rattle.pdu.proofs.Parts.{fields-laid}
-use Rattle.pdu.proofs.Ways.{reads-not}
+use Rattle.pdu.proofs.Ways.{reads, reads-not}
 use Rattle.pdu.proofs.read.Statement.{statement}
 use Rattle.pdu.proofs.read.Tie as tie
 
 returns : tie.Need-returns
-unfolding reading
 returns c =
     let b = c .before .before .before .before .before .before .before .before .before .before .before in
     let k = b .before .before .before in
@@ -23,10 +22,8 @@ returns c =
       c .before .before .before .before .take-part2 .ensures,
       c .before .before .before .before .before .before .user-start .ensures,
       c .before .before .before .before .before .before .before .before .before .take-part .ensures,
-      fit,
-      whole,
     )
-    (ap (taken Done) (fields-laid (a .c) (a .pdu .now) (a .pn .now) (a .user .now) whole fit))
+    (ap (taken Done) (fields-laid (a .c) (a .pdu .now) (a .pn .now) (a .user .now) whole fit) ∙ reads (a .c) (a .pdu .now) (a .pn .now) (a .user .now) whole fit)
 
 returns-2 : tie.Need-returns-2
 returns-2 c =
