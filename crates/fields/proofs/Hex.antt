@@ -7,25 +7,25 @@ use native.Mathlib.Omega.{arith}
 use lib.ListN.{length, drop, getD, length-drop}
 use lib.Seq.{drop-cons}
 use borrow.Author.Tests.{lt-ltb, le-ltb, le-leb, lt-leb}
-use Rattle.fields.specs.Hex.{hexDigit, hexPairs}
+use Rattle.fields.specs.Hex.{hexValue, hexPairs}
 
 -- ---- the value of a digit, by where it stands among the bytes
 
 module _ (d : ℕ) where
-  pub digit-below : d < 48 → 16 ≡ hexDigit d
-  digit-below h = rw (lt-ltb d 48 h)
+  pub value-below : d < 48 → 16 ≡ hexValue d
+  value-below h = rw (lt-ltb d 48 h)
 
-  pub digit-decimal : 48 ≤ d → d ≤ 57 → d - 48 ≡ hexDigit d
-  digit-decimal h e = rw (le-ltb d 48 h, le-leb d 57 e)
+  pub value-decimal : 48 ≤ d → d ≤ 57 → d - 48 ≡ hexValue d
+  value-decimal h e = rw (le-ltb d 48 h, le-leb d 57 e)
 
-  pub digit-between : 57 < d → d < 65 → 16 ≡ hexDigit d
-  digit-between h e = rw (le-ltb d 48 (omega arith), lt-leb d 57 h, lt-ltb d 65 e)
+  pub value-between : 57 < d → d < 65 → 16 ≡ hexValue d
+  value-between h e = rw (le-ltb d 48 (omega arith), lt-leb d 57 h, lt-ltb d 65 e)
 
-  pub digit-letter : 65 ≤ d → d ≤ 70 → d - 65 + 10 ≡ hexDigit d
-  digit-letter h e = rw (le-ltb d 48 (omega arith), lt-leb d 57 (omega arith), le-ltb d 65 h, le-leb d 70 e)
+  pub value-letter : 65 ≤ d → d ≤ 70 → d - 65 + 10 ≡ hexValue d
+  value-letter h e = rw (le-ltb d 48 (omega arith), lt-leb d 57 (omega arith), le-ltb d 65 h, le-leb d 70 e)
 
-  pub digit-above : 70 < d → 16 ≡ hexDigit d
-  digit-above h = rw (le-ltb d 48 (omega arith), lt-leb d 57 (omega arith), le-ltb d 65 (omega arith), lt-leb d 70 h)
+  pub value-above : 70 < d → 16 ≡ hexValue d
+  value-above h = rw (le-ltb d 48 (omega arith), lt-leb d 57 (omega arith), le-ltb d 65 (omega arith), lt-leb d 70 h)
 
 -- ---- pairs from a place on
 
@@ -47,12 +47,12 @@ module _ (s : List ℕ) (i : ℕ) where
       short (x ∷ y ∷ l) k = absurd (omega arith)
 
   -- the pair at the place, by the values of its digits
-  module _ (room : i + 1 < length s) {h : ℕ} (high : h ≡ hexDigit (getD s i 0)) where
+  module _ (room : i + 1 < length s) {h : ℕ} (high : h ≡ hexValue (getD s i 0)) where
     pub pairs-high : 15 < h → hexPairs (drop i s) ≡ []
     unfolding hexPairs
     pairs-high e = rw (two room, ← high, lt-ltb 15 h e)
 
-    module _ {l : ℕ} (low : l ≡ hexDigit (getD s (i + 1) 0)) (fits : h ≤ 15) where
+    module _ {l : ℕ} (low : l ≡ hexValue (getD s (i + 1) 0)) (fits : h ≤ 15) where
       pub pairs-low : 15 < l → hexPairs (drop i s) ≡ []
       unfolding hexPairs
       pairs-low e = rw (two room, ← high, ← low, le-ltb 15 h fits, lt-ltb 15 l e)

@@ -17,11 +17,11 @@ use Rattle.print.proofs.Wrote.{sets-last}
 pub length-decimal : (k n : ℕ) → length (decimal k n) ≤ k
 unfolding decimal
 length-decimal zero n = omega arith
-length-decimal (suc k) n = by-test (ltb n 10) (decimal k (n / 10)) (length-decimal k (n / 10))
+length-decimal (suc k) n = by-test (ltb n 10) refl (length-decimal k (n / 10))
   where
-    by-test : (t : Bool) (l : List ℕ) → length l ≤ k → length (cond t ((48 + n) ∷ []) (l ++ ((48 + n % 10) ∷ []))) ≤ suc k
-    by-test true l h = omega arith
-    by-test false l h = rw length-append (omega arith)
+    by-test : (t : Bool) → ltb n 10 ≡ t → length (decimal k (n / 10)) ≤ k → length (decimal (suc k) n) ≤ suc k
+    by-test true e h = rw e (omega arith)
+    by-test false e h = rw e (omega (arith, length-append (decimal k (n / 10)) ((48 + n % 10) ∷ [])))
 
 -- a tenth has a digit less
 tenth : (k n : ℕ) → n < 10 ^ suc k → n / 10 < 10 ^ k

@@ -3,6 +3,7 @@ use mathlib.Core.Path.{_≡_, refl, sym, ap, _∙_}
 use mathlib.Core.List.{List, [], _∷_, _++_}
 use Prim.Native.Nat.{ℕ, zero, suc, _+_, _≤_, _<_}
 use native.Mathlib.Nat.{add-zero, add-suc, suc-add}
+use native.Mathlib.Numerals.{add-one}
 use native.Mathlib.Omega.{arith}
 use lib.ListN.{length, set, length-append}
 use lib.Seq.{sets, length-sets, set-comm}
@@ -24,6 +25,10 @@ then {l} {i} {a} {m} {b} {n} {p} {r} v w = record {
   next = let e : p ≡ i + length a = v .next in let f : r ≡ p + length b = w .next in rw length-append (omega arith);
   list = w .list ∙ rw (v .list, v .next) (sets-sets l i a b);
 }
+
+-- two bytes
+pub wrote-two : (l : List ℕ) (i a b : ℕ) → Wrote l i (a ∷ b ∷ []) (set (set l i a) (i + 1) b) (i + 2)
+wrote-two l i a b = record { next = refl; list = rw add-one }
 
 -- a writer keeps the length
 pub wrote-length : {l : List ℕ} {i : ℕ} {a m : List ℕ} {r : ℕ} → Wrote l i a m r → length m ≡ length l
