@@ -5,11 +5,11 @@ use mathlib.Core.List.{List, [], _∷_}
 use lib.Dec.{leb, ltb}
 
 -- the value of a hex digit, 16 for any other byte
-abbrev pub hexDigit : ℕ → ℕ
-hexDigit d = cond (ltb d 48) 16 (cond (leb d 57) (d - 48) (cond (ltb d 65) 16 (cond (leb d 70) (d - 65 + 10) 16)))
+abbrev pub hexValue : ℕ → ℕ
+hexValue d = cond (ltb d 48) 16 (cond (leb d 57) (d - 48) (cond (ltb d 65) 16 (cond (leb d 70) (d - 65 + 10) 16)))
 
 -- the bytes of a text's leading pairs of hex digits, up to the first that is none
 unfoldable pub hexPairs : List ℕ → List ℕ
 hexPairs [] = []
 hexPairs (h ∷ []) = []
-hexPairs (h ∷ l ∷ s) = cond (ltb 15 (hexDigit h)) [] (cond (ltb 15 (hexDigit l)) [] ((hexDigit h * 16 + hexDigit l) ∷ hexPairs s))
+hexPairs (h ∷ l ∷ s) = cond (ltb 15 (hexValue h)) [] (cond (ltb 15 (hexValue l)) [] ((hexValue h * 16 + hexValue l) ∷ hexPairs s))

@@ -9,7 +9,7 @@ ghost use lib.ListN.{length, drop, set};
 ghost use Rattle.text.specs.Filled.{filled, fill};
 ghost use Rattle.text.specs.Lines.{until};
 ghost use Rattle.fields.specs.Fields.{tab};
-ghost use Rattle.fields.specs.Hex.{hexDigit, hexPairs};
+ghost use Rattle.fields.specs.Hex.{hexValue, hexPairs};
 ghost use Rattle.fields.specs.Numbers.{decimalOf, digitsMost, numberFrom, tokenOf, tokensOf};
 
 pub mod names;
@@ -123,8 +123,8 @@ pub fn tokens(line: &[u8], out: &mut [u64]) -> usize
 // ---- hex
 
 // The value of a hex digit in upper case, 16 for any other byte.
-fn hex_digit(d: u8) -> u8
-    ensures { λ r. ⌜ r ≡ hexDigit d ⌝ }
+fn hex_value(d: u8) -> u8
+    ensures { λ r. ⌜ r ≡ hexValue d ⌝ }
 {
     if d < b'0' {
         return 16;
@@ -158,8 +158,8 @@ pub fn hex_pairs(s: &[u8], out: &mut [u8]) -> usize
     let mut i = 0;
     let mut n = 0;
     while i + 1 < s.len() {
-        let high = hex_digit(s[i]);
-        let low = hex_digit(s[i + 1]);
+        let high = hex_value(s[i]);
+        let low = hex_value(s[i + 1]);
         if 15 < high {
             return n;
         }

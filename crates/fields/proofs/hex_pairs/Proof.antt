@@ -22,21 +22,21 @@ abbrev μ-loop : tie.MeasureT-loop
 returns : tie.Need-returns Inv-loop μ-loop
 returns c =
     let b = c .before .before .before in
-    filling-end (b .before .before .before .loop .inv .0) (pairs-high _ _ (b .before .before .loop-test .taken) (rw (b .hex-digit .ensures) at (c .if1 .taken)))
+    filling-end (b .before .before .before .loop .inv .0) (pairs-high _ _ (b .before .before .loop-test .taken) (b .hex-value .ensures) (c .if1 .taken))
 
 returns-2 : tie.Need-returns-2 Inv-loop μ-loop
 returns-2 c =
     let b = c .before .before .before .before in
     filling-end (b .before .before .before .loop .inv .0)
-    (pairs-low _ _ (b .before .before .loop-test .taken) (rw (b .hex-digit .ensures) at (c .before .if1 .left)) (rw (c .before .before .hex-digit2 .ensures) at (c .if2 .taken)))
+    (pairs-low _ _ (b .before .before .loop-test .taken) (b .hex-value .ensures) (c .before .before .hex-value2 .ensures) (c .before .if1 .left) (c .if2 .taken))
 
 loop-again : tie.Need-loop-again Inv-loop μ-loop
 loop-again c =
     let e = c .before .before .before .before in
     let b = e .before .before .before .before in
     let l = b .before .before .before .loop in
-    let m = pairs-more (b .before .before .before .before .before .before .args .s .now) (l .i) (b .before .before .loop-test .taken) (rw (b .hex-digit .ensures) at (e .before .if1 .left)) (rw (e .before .before .hex-digit2 .ensures) at (e .if2 .left)) in (
-      filling-one (rw m at (l .inv .0)) (c .before .before .put-byte .ensures ∙ rw (b .hex-digit .ensures, e .before .before .hex-digit2 .ensures)),
+    let m = pairs-more (b .before .before .before .before .before .before .args .s .now) (l .i) (b .before .before .loop-test .taken) (b .hex-value .ensures) (e .before .before .hex-value2 .ensures) (e .before .if1 .left) (e .if2 .left) in (
+      filling-one (rw m at (l .inv .0)) (c .before .before .put-byte .ensures),
       omega arith,
       rw (c .before .before .put-byte .ensures) (simp length-set (omega arith)),
       omega arith,

@@ -1,0 +1,3 @@
+pub mod Wrote
+pub mod Numbers
+pub mod Hex

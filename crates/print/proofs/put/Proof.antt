@@ -1,0 +1,12 @@
+-- `print::put` meets its contract. Assumes nothing.
+use mathlib.Core.Path.{refl}
+use native.Mathlib.Omega.{arith}
+use borrow.Author.Needs.{needs}
+use Rattle.print.proofs.put.Statement.{statement}
+use Rattle.print.proofs.put.Tie as tie
+
+returns : tie.Need-returns
+returns c = record { next = refl; list = refl }
+
+pub put-spec : {M : Type 1} → statement M
+put-spec = tie.close (tie.spec (λ c. search needs) (λ c. search needs) (λ c. search needs) returns)
