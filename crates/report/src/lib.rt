@@ -1,0 +1,147 @@
+// A line that a trace prints: number, answer, state, notes and frame.
+//
+// Promises: the text of specs/Report in the lent buffer from a place on, and no other byte changed. Leaves to others:
+// what a line's answer is (`trace`).
+use channel::state::Notes;
+use decision::state::Note;
+use decision::state::State;
+ghost use mathlib.Core.Path.{_≡_};
+ghost use mathlib.Core.List.{[], _∷_};
+ghost use Prim.Native.Nat.{_+_, _*_, _≤_};
+ghost use lib.Dec.{eqb};
+ghost use lib.ListN.{length};
+ghost use Rattle.print.specs.Print.{Wrote};
+ghost use Rattle.report.specs.Report.{
+  changeWord,
+  dashed,
+  frameText,
+  letterOf,
+  lineMost,
+  lineText,
+  notesMost,
+  notesText,
+  piece,
+  wordOf,
+};
+
+// The byte between two fields, and the one for a field without content.
+const TAB: u8 = b'\t';
+
+pub const DASH: u8 = b'-';
+
+// The letter of a state.
+pub fn letter(s: State) -> u8
+    ensures { λ r. ⌜ r ≡ letterOf s ⌝ }
+{
+    match s {
+        State::BusSleep => b'B',
+        State::PrepareBusSleep => b'P',
+        State::RepeatMessage => b'R',
+        State::NormalOperation => b'N',
+        State::ReadySleep => b'S',
+    }
+}
+
+// ---- notes
+
+// A word of two letters, behind a comma unless it is the first.
+fn put_word(out: &mut [u8], first: usize, at: usize, a: u8, b: u8) -> usize
+    requires { ⌜ at + 3 ≤ length (now out) ⌝ }
+    ensures { λ r. ⌜ Wrote (now (out .entry)) at (piece (eqb at first) (a ∷ b ∷ [])) (now (out .exit)) r ⌝ }
+{
+    if at == first {
+        return print::put_pair(out, at, a, b);
+    }
+    let p = print::put(out, at, b',');
+    print::put_pair(out, p, a, b)
+}
+
+// A note, none where there is nothing to tell.
+fn put_note(out: &mut [u8], first: usize, at: usize, n: Note) -> usize
+    requires { ⌜ at + 3 ≤ length (now out) ⌝ }
+    ensures { λ r. ⌜ Wrote (now (out .entry)) at (piece (eqb at first) (wordOf n)) (now (out .exit)) r ⌝ }
+{
+    match n {
+        Note::Nothing => at,
+        Note::NetworkMode => put_word(out, first, at, b'N', b'M'),
+        Note::NetworkStart => put_word(out, first, at, b'S', b'T'),
+        Note::PrepareBusSleep => put_word(out, first, at, b'P', b'B'),
+        Note::BusSleep => put_word(out, first, at, b'B', b'S'),
+        Note::Timeout => put_word(out, first, at, b'T', b'O'),
+        Note::RemoteSleepCancelled => put_word(out, first, at, b'R', b'C'),
+        Note::RemoteSleepIndication => put_word(out, first, at, b'R', b'I'),
+    }
+}
+
+// EI or ER, by its second letter, where a vector changed.
+fn put_change(out: &mut [u8], first: usize, at: usize, changed: bool, b: u8) -> usize
+    requires { ⌜ at + 3 ≤ length (now out) ⌝ }
+    ensures { λ r. ⌜ Wrote (now (out .entry)) at (piece (eqb at first) (changeWord changed b)) (now (out .exit)) r ⌝ }
+{
+    if changed {
+        return put_word(out, first, at, b'E', b);
+    }
+    at
+}
+
+// The dash where nothing was written since `first`.
+fn put_if_none(out: &mut [u8], first: usize, at: usize) -> usize
+    requires { ⌜ at + 1 ≤ length (now out) ⌝ }
+    ensures { λ r. ⌜ Wrote (now (out .entry)) at (dashed (eqb at first)) (now (out .exit)) r ⌝ }
+{
+    if at == first {
+        return print::put(out, at, DASH);
+    }
+    at
+}
+
+// The notes in their order.
+fn put_notes(out: &mut [u8], at: usize, n: Notes) -> usize
+    requires { ⌜ at + notesMost ≤ length (now out) ⌝ }
+    ensures { λ r. ⌜ Wrote (now (out .entry)) at (notesText n) (now (out .exit)) r ⌝ }
+{
+    let first = n.first;
+    let second = n.second;
+    let p = put_note(out, at, at, first);
+    let q = put_note(out, at, p, second);
+    let r = put_change(out, at, q, n.eira, b'I');
+    let s = put_change(out, at, r, n.era, b'R');
+    put_if_none(out, at, s)
+}
+
+// ---- the frame
+
+fn put_frame(out: &mut [u8], at: usize, frame: &[u8]) -> usize
+    requires { ⌜ (at + 1 + 2 * length (now frame)) ≤ length (now out) ⌝ }
+    ensures { λ r. ⌜ Wrote (now (out .entry)) at (frameText (now (frame .entry))) (now (out .exit)) r ⌝ }
+{
+    if frame.len() == 0 {
+        return print::put(out, at, DASH);
+    }
+    print::put_hex(out, at, frame)
+}
+
+// ---- the line
+
+// The answer and the state are the bytes that are printed for them.
+pub fn put_line(
+    out: &mut [u8],
+    at: usize,
+    n: u64,
+    answer: u8,
+    state: u8,
+    notes: Notes,
+    frame: &[u8],
+) -> usize
+    requires { ⌜ at + lineMost + 2 * length (now frame) ≤ length (now out) ⌝ }
+    ensures { λ r. ⌜ Wrote (now (out .entry)) at (lineText n answer state notes (now (frame .entry))) (now (out .exit)) r ⌝ }
+{
+    let a = print::put_number(out, at, n);
+    let b = print::put_pair(out, a, TAB, answer);
+    let c = print::put_pair(out, b, TAB, state);
+    let d = print::put(out, c, TAB);
+    let e = put_notes(out, d, notes);
+    let f = print::put(out, e, TAB);
+    let g = put_frame(out, f, frame);
+    print::put(out, g, b'\n')
+}
