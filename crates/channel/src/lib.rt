@@ -1,10 +1,9 @@
-// One CanNm channel: every call of the host, on a channel that goes in by value and comes back.
+// One CanNm channel: its value, the fresh one, and the two replies that calls end in. specs/Channel says what every call
+// gives.
 //
-// Promises: each call gives the channel, answer, notes and frame of specs/Channel, over every channel handed in,
-// refusals included. Leaves to others: which tick is the last before Bus-Sleep, over whole lists of calls (`sleep`),
-// and the CAN driver.
+// Promises: each function is a definition of specs/. Leaves to others: the calls themselves (`calls`, `inputs`, `tick`),
+// which tick is the last before Bus-Sleep, over whole lists of calls (`sleep`), and the CAN driver.
 use answers::Answer;
-use bits::Lowest;
 use config::Config;
 use config::Layout;
 use config::Partial;
@@ -15,53 +14,21 @@ use decision::state::Mode;
 use decision::state::Note;
 use decision::state::State;
 use decision::state::Traffic;
-use pdu::pnc::VectorBit;
 use state::Channel;
 use state::Notes;
 use state::Own;
 use state::Reply;
 use state::Started;
-use state::Status;
 ghost use mathlib.Core.Path.{_≡_};
 ghost use mathlib.Core.Bool.{false, true};
-ghost use Rattle.bits.specs.Bits.{countOnes, lowestIn};
-ghost use Rattle.decision.specs.Decision.{
-  confirmPnAvailability,
-  disableCommunication,
-  enableCommunication,
-  networkRelease,
-  networkRequest,
-  passiveStartUp,
-  repeatMessageRequest,
-  rxIndication,
-  setPnRequests,
-  setUserData,
-  txConfirmation,
-};
-ghost use Rattle.channel.specs.Channel.{
-  fresh,
-  freshMode,
-  freshTraffic,
-  initialised,
-  lowestPnc,
-  refused,
-  replied,
-  statusOf,
-  ticked,
-  tickedBy,
-  unshown,
-  vectorOf,
-  zero,
-  zeroConfig,
-  zeroTicks,
-};
-ghost use Rattle.channel.specs.Moved.{finished, movedBy, plainly, told};
+ghost use Rattle.channel.specs.Channel.{fresh, freshMode, freshTraffic, initialised, refused, zero, zeroConfig, zeroTicks};
+ghost use Rattle.channel.specs.Moved.{movedBy};
 
 pub mod state;
 
-// ---- answers
+// ---- refused
 
-fn refused(ch: Channel, a: Answer) -> Reply
+pub fn refused(ch: Channel, a: Answer) -> Reply
     ensures { λ r. ⌜ r ≡ refused ch a ⌝ }
 {
     Reply {
@@ -77,10 +44,10 @@ fn refused(ch: Channel, a: Answer) -> Reply
     }
 }
 
-// ---- steps of a call
+// ---- carried out
 
 // The channel moved by a rule, with its notes.
-fn moved(mut ch: Channel, rule: Rule, again: bool, ei: bool, er: bool) -> Reply
+pub fn moved(mut ch: Channel, rule: Rule, again: bool, ei: bool, er: bool) -> Reply
     ensures { λ r. ⌜ r ≡ movedBy ch rule again ei er ⌝ }
 {
     let before = ch.own.mode;
@@ -104,98 +71,6 @@ fn moved(mut ch: Channel, rule: Rule, again: bool, ei: bool, er: bool) -> Reply
             era: er,
         },
         sent: false,
-    }
-}
-
-// The reply of a tick.
-fn told(ch: Channel, first: Note, second: Note, ei: bool, er: bool, sent: bool) -> Reply
-    ensures { λ r. ⌜ r ≡ told ch first second ei er sent ⌝ }
-{
-    Reply {
-        channel: ch,
-        answer: Answer::Done,
-        notes: Notes {
-            first: first,
-            second: second,
-            eira: ei,
-            era: er,
-        },
-        sent: sent,
-    }
-}
-
-// A call that changes no vector and no byte.
-fn finish(ch: Channel, a: Answer, rule: Rule, again: bool) -> Reply
-    ensures { λ r. ⌜ r ≡ finished ch a rule again ⌝ }
-{
-    if decision::refusals::is_done(a) {
-        return moved(ch, rule, again, false, false);
-    }
-    refused(ch, a)
-}
-
-// A call by its number, with what the table's rows 4 and 6 say of it.
-fn plain(ch: Channel, call: u8, passive: bool, off: bool, heeded: bool) -> Reply
-    ensures { λ r. ⌜ r ≡ plainly ch call passive off heeded ⌝ }
-{
-    let m = ch.own.mode;
-    let state = m.state;
-    let ok = soundness::sound(
-        ch.own.config,
-        ch.own.ticks,
-        m,
-        ch.own.traffic,
-        &ch.own.era,
-        &ch.eira,
-    );
-    let rule = decision::rule_of(state, call);
-    let a = decision::refusals::judge(ok, passive, off, decision::is_not_here(rule), false);
-    finish(ch, a, decision::heed(heeded, rule), false)
-}
-
-// ---- status
-
-fn vector_of(t: &[u16; 56]) -> [u8; 7]
-    ensures { λ r. ⌜ r ≡ vectorOf (now (t .entry)) ⌝ }
-{
-    [
-        bits::vector_byte(t, 0),
-        bits::vector_byte(t, 8),
-        bits::vector_byte(t, 16),
-        bits::vector_byte(t, 24),
-        bits::vector_byte(t, 32),
-        bits::vector_byte(t, 40),
-        bits::vector_byte(t, 48),
-    ]
-}
-
-fn count_of(v: &[u8; 7]) -> u32
-    ensures { λ r. ⌜ r ≡ countOnes (now (v .entry)) ⌝ }
-{
-    bits::count_ones(v)
-}
-
-fn lowest_of(c: Config, v: &[u8; 7]) -> u32
-    ensures { λ r. ⌜ r ≡ lowestPnc c (lowestIn (now (v .entry))) ⌝ }
-{
-    let range = pdu::pnc::range_of(c);
-    let k = bits::lowest_one(v);
-    match k {
-        Lowest::At(b) => pdu::pnc::number_or_zero(VectorBit(b), range),
-        Lowest::Nowhere => 0,
-    }
-}
-
-fn unshown(a: Answer) -> Status
-    ensures { λ r. ⌜ r ≡ unshown a ⌝ }
-{
-    Status {
-        answer: a,
-        state: 0,
-        era: [0; 7],
-        eira: [0; 7],
-        count: 0,
-        lowest: 0,
     }
 }
 
@@ -300,7 +175,7 @@ fn zero() -> Channel
     }
 }
 
-// ---- the calls
+// ---- the channel
 
 impl Channel {
     // One reset timer for each bit of seven PN bytes, the most that a PDU of eight has room for.
@@ -344,247 +219,5 @@ impl Channel {
             channel: zero(),
             answer: Answer::Rule(rule),
         }
-    }
-
-    // The state, both vectors, and what EIRA says of the PNCs.
-    pub fn status(self) -> Status
-        ensures { λ r. ⌜ r ≡ statusOf self ⌝ }
-    {
-        let c = self.own.config;
-        let m = self.own.mode;
-        let state = m.state;
-        let ok = soundness::sound(
-            c,
-            self.own.ticks,
-            m,
-            self.own.traffic,
-            &self.own.era,
-            &self.eira,
-        );
-        let elsewhere = decision::is_not_here(decision::rule_of(state, decision::STATUS));
-        let a = decision::refusals::judge(ok, false, false, elsewhere, false);
-        if decision::refusals::is_done(a) {
-            let era = vector_of(&self.own.era);
-            let eira = vector_of(&self.eira);
-            let count = count_of(&eira);
-            let lowest = lowest_of(c, &eira);
-            return Status {
-                answer: Answer::Done,
-                state: decision::state_number(state),
-                era: era,
-                eira: eira,
-                count: count,
-                lowest: lowest,
-            };
-        }
-        unshown(a)
-    }
-
-    // The host asks for the network.
-    pub fn network_request(self) -> Reply
-        ensures { λ r. ⌜ r ≡ replied self networkRequest ⌝ }
-    {
-        plain(
-            self,
-            decision::NETWORK_REQUEST,
-            self.own.config.passive,
-            false,
-            true,
-        )
-    }
-
-    // The host needs the network no longer.
-    pub fn network_release(self) -> Reply
-        ensures { λ r. ⌜ r ≡ replied self networkRelease ⌝ }
-    {
-        plain(
-            self,
-            decision::NETWORK_RELEASE,
-            self.own.config.passive,
-            false,
-            true,
-        )
-    }
-
-    // The network was started by another node.
-    pub fn passive_start_up(self) -> Reply
-        ensures { λ r. ⌜ r ≡ replied self passiveStartUp ⌝ }
-    {
-        plain(self, decision::PASSIVE_START_UP, false, false, true)
-    }
-
-    // The host asks all nodes to announce themselves.
-    pub fn repeat_message_request(self) -> Reply
-        ensures { λ r. ⌜ r ≡ replied self repeatMessageRequest ⌝ }
-    {
-        plain(
-            self,
-            decision::REPEAT_MESSAGE_REQUEST,
-            self.own.config.passive,
-            false,
-            true,
-        )
-    }
-
-    pub fn disable_communication(self) -> Reply
-        ensures { λ r. ⌜ r ≡ replied self disableCommunication ⌝ }
-    {
-        plain(
-            self,
-            decision::DISABLE_COMMUNICATION,
-            self.own.config.passive,
-            false,
-            true,
-        )
-    }
-
-    pub fn enable_communication(self) -> Reply
-        ensures { λ r. ⌜ r ≡ replied self enableCommunication ⌝ }
-    {
-        plain(
-            self,
-            decision::ENABLE_COMMUNICATION,
-            self.own.config.passive,
-            false,
-            true,
-        )
-    }
-
-    // The driver's word on a frame that was sent: good or bad.
-    pub fn tx_confirmation(self, good: bool) -> Reply
-        ensures { λ r. ⌜ r ≡ replied self (txConfirmation good) ⌝ }
-    {
-        plain(
-            self,
-            decision::TX_CONFIRMATION,
-            self.own.config.passive,
-            false,
-            good,
-        )
-    }
-
-    // The partial-network filter is turned on.
-    pub fn confirm_pn_availability(self) -> Reply
-        ensures { λ r. ⌜ r ≡ replied self confirmPnAvailability ⌝ }
-    {
-        let off = choice::negation(self.own.config.pn.on);
-        plain(self, decision::CONFIRM_PN_AVAILABILITY, false, off, true)
-    }
-
-    // A PDU was received.
-    pub fn rx_indication(mut self, pdu: &[u8]) -> Reply
-        ensures { λ r. ⌜ r ≡ replied self (rxIndication (now (pdu .entry))) ⌝ }
-    {
-        let c = self.own.config;
-        let t = self.own.ticks;
-        let m = self.own.mode;
-        let state = m.state;
-        let ok = soundness::sound(c, t, m, self.own.traffic, &self.own.era, &self.eira);
-        let rule = decision::rule_of(state, decision::RX_INDICATION);
-        let size = choice::negation(pdu.len() as u64 == c.layout.length);
-        let a = decision::refusals::judge(ok, false, false, decision::is_not_here(rule), size);
-        if decision::refusals::is_done(a) {
-            if frames::accepted(c, m.filter, pdu) {
-                let again = frames::asks_repeat(c, pdu);
-                let er = frames::load_heard(c, t.reset, pdu, &mut self.own.era);
-                let ei = frames::load_heard(c, t.reset, pdu, &mut self.eira);
-                return moved(self, rule, again, ei, er);
-            }
-            return moved(self, Rule::Keep, false, false, false);
-        }
-        refused(self, a)
-    }
-
-    // The user data of the frames to come.
-    pub fn set_user_data(mut self, bytes: &[u8]) -> Reply
-        ensures { λ r. ⌜ r ≡ replied self (setUserData (now (bytes .entry))) ⌝ }
-    {
-        let c = self.own.config;
-        let m = self.own.mode;
-        let state = m.state;
-        let ok = soundness::sound(
-            c,
-            self.own.ticks,
-            m,
-            self.own.traffic,
-            &self.own.era,
-            &self.eira,
-        );
-        let rule = decision::rule_of(state, decision::SET_USER_DATA);
-        let size = choice::negation(bytes.len() as u64 == config::user_length(c));
-        let a = decision::refusals::judge(ok, c.passive, false, decision::is_not_here(rule), size);
-        if decision::refusals::is_done(a) {
-            frames::store(bytes, &mut self.own.user);
-            return moved(self, rule, false, false, false);
-        }
-        refused(self, a)
-    }
-
-    // The PN requests of the frames to come.
-    pub fn set_pn_requests(mut self, bytes: &[u8]) -> Reply
-        ensures { λ r. ⌜ r ≡ replied self (setPnRequests (now (bytes .entry))) ⌝ }
-    {
-        let c = self.own.config;
-        let m = self.own.mode;
-        let state = m.state;
-        let ok = soundness::sound(
-            c,
-            self.own.ticks,
-            m,
-            self.own.traffic,
-            &self.own.era,
-            &self.eira,
-        );
-        let rule = decision::rule_of(state, decision::SET_PN_REQUESTS);
-        let off = choice::negation(c.pn.on);
-        let size = choice::negation(bytes.len() as u64 == c.pn.length);
-        let a = decision::refusals::judge(ok, c.passive, off, decision::is_not_here(rule), size);
-        if decision::refusals::is_done(a) {
-            frames::store(bytes, &mut self.own.requests);
-            return moved(self, rule, false, false, false);
-        }
-        refused(self, a)
-    }
-
-    // The main function, a tick: `taken` says whether the driver takes a frame, which goes into the first bytes of the lent one.
-    pub fn main_function(mut self, taken: bool, frame: &mut [u8]) -> Reply
-        ensures { λ r. ⌜ ticked r (now (frame .exit)) ≡ tickedBy self taken (now (frame .entry)) ⌝ }
-    {
-        let c = self.own.config;
-        let t = self.own.ticks;
-        let m = self.own.mode;
-        let old = self.own.traffic;
-        let state = m.state;
-        let ok = soundness::sound(c, t, m, old, &self.own.era, &self.eira);
-        let rule = decision::rule_of(state, decision::MAIN_FUNCTION);
-        let size = choice::negation(c.layout.length <= frame.len() as u64);
-        let a = decision::refusals::judge(ok, false, false, decision::is_not_here(rule), size);
-        if decision::refusals::is_done(a) {
-            // Steps a to d.
-            let after = modes::mode_by(rule, false, t, m);
-            let s = traffic::setup_of(c, t);
-            let x = traffic::traffic_by(rule, false, s, m, after, old);
-            let first = notes::first_by(rule, m, after);
-            let second = notes::second_by(rule, m, old);
-            // Step f without its frame, which no table and no byte of the channel depends on.
-            let sent = choice::both(taken, traffic::is_due(s, after, x));
-            let y = traffic::framing(s, after, taken, x);
-            let mut own = self.own;
-            own.mode = after;
-            own.traffic = y;
-            self.own = own;
-            // Step e, and what a sent frame loads.
-            let er = frames::count_down(&mut self.own.era);
-            if sent {
-                let requests = self.own.requests;
-                let user = self.own.user;
-                let ei = frames::load_sent(c, t.reset, &requests, &mut self.eira);
-                frames::send(c, x, &requests, &user, frame);
-                return told(self, first, second, ei, er, true);
-            }
-            let ei = frames::count_down(&mut self.eira);
-            return told(self, first, second, ei, er, false);
-        }
-        refused(self, a)
     }
 }

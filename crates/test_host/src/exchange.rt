@@ -347,18 +347,18 @@ fn no_outcome() -> Called {
 // A call by its number; the main function where no other has it.
 fn reply_of(ch: Channel, call: u32, set: bool, bytes: &[u8], frame: &mut [u8]) -> Reply {
     match call {
-        0 => ch.network_request(),
-        1 => ch.network_release(),
-        2 => ch.passive_start_up(),
-        3 => ch.repeat_message_request(),
-        4 => ch.disable_communication(),
-        5 => ch.enable_communication(),
-        6 => ch.tx_confirmation(set),
-        7 => ch.rx_indication(bytes),
-        8 => ch.confirm_pn_availability(),
-        9 => ch.set_user_data(bytes),
-        10 => ch.set_pn_requests(bytes),
-        _ => ch.main_function(set, frame),
+        0 => calls::network_request(ch),
+        1 => calls::network_release(ch),
+        2 => calls::passive_start_up(ch),
+        3 => calls::repeat_message_request(ch),
+        4 => calls::disable_communication(ch),
+        5 => calls::enable_communication(ch),
+        6 => calls::tx_confirmation(ch, set),
+        7 => inputs::rx_indication(ch, bytes),
+        8 => calls::confirm_pn_availability(ch),
+        9 => inputs::set_user_data(ch, bytes),
+        10 => inputs::set_pn_requests(ch, bytes),
+        _ => tick::main_function(ch, set, frame),
     }
 }
 
@@ -415,7 +415,7 @@ fn put_vector(vector: &[u8; 7], out: &mut [u8]) {
 // Status, with both vectors in the first seven of the lent bytes and 0 behind them.
 #[no_mangle]
 pub extern "C" fn test_status(words: &[u64], era: &mut [u8], eira: &mut [u8]) -> Shown {
-    let s = channel_in(words).status();
+    let s = calls::status(channel_in(words));
     let a = s.answer;
     let first = s.era;
     put_vector(&first, era);

@@ -1,0 +1,215 @@
+// The calls that bring no bytes: each by its number, and status.
+//
+// Promises: each call gives the channel, answer and notes of channel's definition `replied`, over every channel handed
+// in, refusals included; status what `statusOf` shows. Leaves to others: the calls with bytes (`inputs`) and the main
+// function (`tick`).
+use answers::Answer;
+use bits::Lowest;
+use channel::state::Channel;
+use channel::state::Reply;
+use channel::state::Status;
+use config::Config;
+use decision::Rule;
+use pdu::pnc::VectorBit;
+ghost use mathlib.Core.Path.{_≡_};
+ghost use Rattle.bits.specs.Bits.{countOnes, lowestIn};
+ghost use Rattle.decision.specs.Decision.{confirmPnAvailability, disableCommunication, enableCommunication, networkRelease, networkRequest, passiveStartUp, repeatMessageRequest, txConfirmation};
+ghost use Rattle.channel.specs.Channel.{lowestPnc, replied, statusOf, unshown, vectorOf};
+ghost use Rattle.channel.specs.Moved.{finished, plainly};
+
+// ---- a call by its number
+
+// A call that changes no vector and no byte.
+fn finish(ch: Channel, a: Answer, rule: Rule, again: bool) -> Reply
+    ensures { λ r. ⌜ r ≡ finished ch a rule again ⌝ }
+{
+    if decision::refusals::is_done(a) {
+        return channel::moved(ch, rule, again, false, false);
+    }
+    channel::refused(ch, a)
+}
+
+// A call by its number, with what the table's rows 4 and 6 say of it.
+fn plain(ch: Channel, call: u8, passive: bool, off: bool, heeded: bool) -> Reply
+    ensures { λ r. ⌜ r ≡ plainly ch call passive off heeded ⌝ }
+{
+    let m = ch.own.mode;
+    let state = m.state;
+    let ok = soundness::sound(
+        ch.own.config,
+        ch.own.ticks,
+        m,
+        ch.own.traffic,
+        &ch.own.era,
+        &ch.eira,
+    );
+    let rule = decision::rule_of(state, call);
+    let a = decision::refusals::judge(ok, passive, off, decision::is_not_here(rule), false);
+    finish(ch, a, decision::heed(heeded, rule), false)
+}
+
+// ---- the calls
+
+// The host asks for the network.
+pub fn network_request(ch: Channel) -> Reply
+    ensures { λ r. ⌜ r ≡ replied ch networkRequest ⌝ }
+{
+    plain(
+        ch,
+        decision::NETWORK_REQUEST,
+        ch.own.config.passive,
+        false,
+        true,
+    )
+}
+
+// The host needs the network no longer.
+pub fn network_release(ch: Channel) -> Reply
+    ensures { λ r. ⌜ r ≡ replied ch networkRelease ⌝ }
+{
+    plain(
+        ch,
+        decision::NETWORK_RELEASE,
+        ch.own.config.passive,
+        false,
+        true,
+    )
+}
+
+// The network was started by another node.
+pub fn passive_start_up(ch: Channel) -> Reply
+    ensures { λ r. ⌜ r ≡ replied ch passiveStartUp ⌝ }
+{
+    plain(ch, decision::PASSIVE_START_UP, false, false, true)
+}
+
+// The host asks all nodes to announce themselves.
+pub fn repeat_message_request(ch: Channel) -> Reply
+    ensures { λ r. ⌜ r ≡ replied ch repeatMessageRequest ⌝ }
+{
+    plain(
+        ch,
+        decision::REPEAT_MESSAGE_REQUEST,
+        ch.own.config.passive,
+        false,
+        true,
+    )
+}
+
+pub fn disable_communication(ch: Channel) -> Reply
+    ensures { λ r. ⌜ r ≡ replied ch disableCommunication ⌝ }
+{
+    plain(
+        ch,
+        decision::DISABLE_COMMUNICATION,
+        ch.own.config.passive,
+        false,
+        true,
+    )
+}
+
+pub fn enable_communication(ch: Channel) -> Reply
+    ensures { λ r. ⌜ r ≡ replied ch enableCommunication ⌝ }
+{
+    plain(
+        ch,
+        decision::ENABLE_COMMUNICATION,
+        ch.own.config.passive,
+        false,
+        true,
+    )
+}
+
+// The driver's word on a frame that was sent: good or bad.
+pub fn tx_confirmation(ch: Channel, good: bool) -> Reply
+    ensures { λ r. ⌜ r ≡ replied ch (txConfirmation good) ⌝ }
+{
+    plain(
+        ch,
+        decision::TX_CONFIRMATION,
+        ch.own.config.passive,
+        false,
+        good,
+    )
+}
+
+// The partial-network filter is turned on.
+pub fn confirm_pn_availability(ch: Channel) -> Reply
+    ensures { λ r. ⌜ r ≡ replied ch confirmPnAvailability ⌝ }
+{
+    let off = choice::negation(ch.own.config.pn.on);
+    plain(ch, decision::CONFIRM_PN_AVAILABILITY, false, off, true)
+}
+
+// ---- status
+
+fn vector_of(t: &[u16; 56]) -> [u8; 7]
+    ensures { λ r. ⌜ r ≡ vectorOf (now (t .entry)) ⌝ }
+{
+    [
+        bits::vector_byte(t, 0),
+        bits::vector_byte(t, 8),
+        bits::vector_byte(t, 16),
+        bits::vector_byte(t, 24),
+        bits::vector_byte(t, 32),
+        bits::vector_byte(t, 40),
+        bits::vector_byte(t, 48),
+    ]
+}
+
+fn count_of(v: &[u8; 7]) -> u32
+    ensures { λ r. ⌜ r ≡ countOnes (now (v .entry)) ⌝ }
+{
+    bits::count_ones(v)
+}
+
+fn lowest_of(c: Config, v: &[u8; 7]) -> u32
+    ensures { λ r. ⌜ r ≡ lowestPnc c (lowestIn (now (v .entry))) ⌝ }
+{
+    let range = pdu::pnc::range_of(c);
+    let k = bits::lowest_one(v);
+    match k {
+        Lowest::At(b) => pdu::pnc::number_or_zero(VectorBit(b), range),
+        Lowest::Nowhere => 0,
+    }
+}
+
+fn unshown(a: Answer) -> Status
+    ensures { λ r. ⌜ r ≡ unshown a ⌝ }
+{
+    Status {
+        answer: a,
+        state: 0,
+        era: [0; 7],
+        eira: [0; 7],
+        count: 0,
+        lowest: 0,
+    }
+}
+
+// The state, both vectors, and what EIRA says of the PNCs.
+pub fn status(ch: Channel) -> Status
+    ensures { λ r. ⌜ r ≡ statusOf ch ⌝ }
+{
+    let c = ch.own.config;
+    let m = ch.own.mode;
+    let state = m.state;
+    let ok = soundness::sound(c, ch.own.ticks, m, ch.own.traffic, &ch.own.era, &ch.eira);
+    let elsewhere = decision::is_not_here(decision::rule_of(state, decision::STATUS));
+    let a = decision::refusals::judge(ok, false, false, elsewhere, false);
+    if decision::refusals::is_done(a) {
+        let era = vector_of(&ch.own.era);
+        let eira = vector_of(&ch.eira);
+        let count = count_of(&eira);
+        let lowest = lowest_of(c, &eira);
+        return Status {
+            answer: Answer::Done,
+            state: decision::state_number(state),
+            era: era,
+            eira: eira,
+            count: count,
+            lowest: lowest,
+        };
+    }
+    unshown(a)
+}

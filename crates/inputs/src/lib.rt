@@ -1,0 +1,71 @@
+// The calls that bring bytes: a PDU received, user data, PN requests.
+//
+// Promises: each call gives the channel, answer and notes of channel's definition `replied`, over every channel handed
+// in and all bytes, refusals included. Leaves to others: which bytes a frame has (`frames`).
+use channel::state::Channel;
+use channel::state::Reply;
+use decision::Rule;
+ghost use mathlib.Core.Path.{_≡_};
+ghost use Rattle.decision.specs.Decision.{rxIndication, setPnRequests, setUserData};
+ghost use Rattle.channel.specs.Channel.{replied};
+
+// A PDU was received.
+pub fn rx_indication(mut ch: Channel, pdu: &[u8]) -> Reply
+    ensures { λ r. ⌜ r ≡ replied ch (rxIndication (now (pdu .entry))) ⌝ }
+{
+    let c = ch.own.config;
+    let t = ch.own.ticks;
+    let m = ch.own.mode;
+    let state = m.state;
+    let ok = soundness::sound(c, t, m, ch.own.traffic, &ch.own.era, &ch.eira);
+    let rule = decision::rule_of(state, decision::RX_INDICATION);
+    let size = choice::negation(pdu.len() as u64 == c.layout.length);
+    let a = decision::refusals::judge(ok, false, false, decision::is_not_here(rule), size);
+    if decision::refusals::is_done(a) {
+        if frames::accepted(c, m.filter, pdu) {
+            let again = frames::asks_repeat(c, pdu);
+            let er = frames::load_heard(c, t.reset, pdu, &mut ch.own.era);
+            let ei = frames::load_heard(c, t.reset, pdu, &mut ch.eira);
+            return channel::moved(ch, rule, again, ei, er);
+        }
+        return channel::moved(ch, Rule::Keep, false, false, false);
+    }
+    channel::refused(ch, a)
+}
+
+// The user data of the frames to come.
+pub fn set_user_data(mut ch: Channel, bytes: &[u8]) -> Reply
+    ensures { λ r. ⌜ r ≡ replied ch (setUserData (now (bytes .entry))) ⌝ }
+{
+    let c = ch.own.config;
+    let m = ch.own.mode;
+    let state = m.state;
+    let ok = soundness::sound(c, ch.own.ticks, m, ch.own.traffic, &ch.own.era, &ch.eira);
+    let rule = decision::rule_of(state, decision::SET_USER_DATA);
+    let size = choice::negation(bytes.len() as u64 == config::user_length(c));
+    let a = decision::refusals::judge(ok, c.passive, false, decision::is_not_here(rule), size);
+    if decision::refusals::is_done(a) {
+        frames::store(bytes, &mut ch.own.user);
+        return channel::moved(ch, rule, false, false, false);
+    }
+    channel::refused(ch, a)
+}
+
+// The PN requests of the frames to come.
+pub fn set_pn_requests(mut ch: Channel, bytes: &[u8]) -> Reply
+    ensures { λ r. ⌜ r ≡ replied ch (setPnRequests (now (bytes .entry))) ⌝ }
+{
+    let c = ch.own.config;
+    let m = ch.own.mode;
+    let state = m.state;
+    let ok = soundness::sound(c, ch.own.ticks, m, ch.own.traffic, &ch.own.era, &ch.eira);
+    let rule = decision::rule_of(state, decision::SET_PN_REQUESTS);
+    let off = choice::negation(c.pn.on);
+    let size = choice::negation(bytes.len() as u64 == c.pn.length);
+    let a = decision::refusals::judge(ok, c.passive, off, decision::is_not_here(rule), size);
+    if decision::refusals::is_done(a) {
+        frames::store(bytes, &mut ch.own.requests);
+        return channel::moved(ch, rule, false, false, false);
+    }
+    channel::refused(ch, a)
+}
