@@ -37,11 +37,11 @@ allNumbers (x ∷ xs) = isNumber x && allNumbers xs
 -- ---- lines
 
 -- CFG and PN among the names, and how many fields their lines have
-abbrev pub cfg : ℕ
-cfg = 13
+abbrev pub cfgName : ℕ
+cfgName = 13
 
-abbrev pub pn : ℕ
-pn = 14
+abbrev pub pnName : ℕ
+pnName = 14
 
 abbrev pub cfgFields : ℕ
 cfgFields = 15
@@ -55,7 +55,7 @@ nameOf l = callOf (take (until tab l) l)
 
 -- a line of a name, with as many fields as it must have, and not too long
 unfoldable pub isLine : List ℕ → ℕ → ℕ → ℕ → Bool
-isLine l name must fields = leb (length l) lineMost && (eqb (nameOf l) name && eqb fields must)
+isLine l name must count = leb (length l) lineMost && (eqb (nameOf l) name && eqb count must)
 
 -- what the fields of a line read as, as many as a line of a configuration may have, and 0 where it has fewer
 abbrev pub tableOf : List ℕ → List ℕ
@@ -94,14 +94,14 @@ configOf t =
 unfoldable pub readConfig : List ℕ → Setting
 readConfig l =
     record {
-      readable = isLine l cfg cfgFields (length (tokensOf l)) && configReads (tableOf l);
+      readable = isLine l cfgName cfgFields (length (tokensOf l)) && configReads (tableOf l);
       config = configOf (tableOf l);
     }
 
 -- ---- the PN line: PN, F, N, P, keep-awake, mask
 
 unfoldable pub isPartial : List ℕ → Bool
-isPartial l = eqb (nameOf l) pn
+isPartial l = eqb (nameOf l) pnName
 
 -- what stands behind the first tab; nothing where there is none
 unfoldable pub behindTab : List ℕ → List ℕ
@@ -154,7 +154,7 @@ unfoldable pub readPartial : Config → List ℕ → Setting
 readPartial c l =
     record {
       readable =
-          isLine l pn pnFields (length (tokensOf l))
+          isLine l pnName pnFields (length (tokensOf l))
           && (partialReads (tableOf l) && isMask (length (hexPairs (maskText l))) (length (maskText l)));
       config =
           withPartial c (tableOf l) (length (hexPairs (maskText l))) (sets (replicate 8 0) 0 (hexPairs (maskText l)));

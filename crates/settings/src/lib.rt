@@ -97,18 +97,18 @@ fn name_of(l: &[u8]) -> usize
 }
 
 // Is this a line of that name, with as many fields as it must have, and not too long?
-fn is_line(l: &[u8], name: usize, must: usize, fields: usize) -> bool
-    ensures { λ r. ⌜ r ≡ isLine (now (l .entry)) name must fields ⌝ }
+fn is_line(l: &[u8], name: usize, must: usize, count: usize) -> bool
+    ensures { λ r. ⌜ r ≡ isLine (now (l .entry)) name must count ⌝ }
 {
     choice::both(
         l.len() <= text::LINE_MOST,
-        choice::both(name_of(l) == name, fields == must),
+        choice::both(name_of(l) == name, count == must),
     )
 }
 
 // ---- line 1: CFG, M, T, W, R, C, O, IN, IC, RS, passive, L, SNI, CBV, id
 
-fn config_reads(t: &[u64; 15]) -> bool
+fn config_reads(t: &[u64; CFG_FIELDS]) -> bool
     ensures { λ r. ⌜ r ≡ configReads (now (t .entry)) ⌝ }
 {
     let all: &[u64] = t;
@@ -128,7 +128,7 @@ fn config_reads(t: &[u64; 15]) -> bool
 }
 
 // The configuration with PN off.
-fn config_of(t: &[u64; 15]) -> Config
+fn config_of(t: &[u64; CFG_FIELDS]) -> Config
     ensures { λ r. ⌜ r ≡ configOf (now (t .entry)) ⌝ }
 {
     Config {
@@ -169,10 +169,7 @@ pub fn read_config(l: &[u8]) -> Setting
     let mut t = [0u64; CFG_FIELDS];
     let n = fields::tokens(l, &mut t);
     Setting {
-        readable: choice::both(
-            is_line(l, names::CFG, CFG_FIELDS, n),
-            config_reads(&t),
-        ),
+        readable: choice::both(is_line(l, names::CFG, CFG_FIELDS, n), config_reads(&t)),
         config: config_of(&t),
     }
 }
@@ -214,7 +211,7 @@ fn is_mask(pairs: usize, bytes: usize) -> bool
     false
 }
 
-fn partial_reads(t: &[u64; 15]) -> bool
+fn partial_reads(t: &[u64; CFG_FIELDS]) -> bool
     ensures { λ r. ⌜ r ≡ partialReads (now (t .entry)) ⌝ }
 {
     let all: &[u64] = t;
@@ -222,7 +219,7 @@ fn partial_reads(t: &[u64; 15]) -> bool
 }
 
 // The configuration with PN on, and the mask of so many bytes.
-fn with_partial(c: Config, t: &[u64; 15], pairs: usize, mask: &[u8; 8]) -> Config
+fn with_partial(c: Config, t: &[u64; CFG_FIELDS], pairs: usize, mask: &[u8; 8]) -> Config
     ensures { λ r. ⌜ r ≡ withPartial c (now (t .entry)) pairs (now (mask .entry)) ⌝ }
 {
     Config {
