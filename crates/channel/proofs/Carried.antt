@@ -1,6 +1,6 @@
 -- A reply is the call carried out, or its refusal. Assumes nothing.
 use mathlib.Core.Path.{_≡_, refl, sym, _∙_}
-use mathlib.Core.Bool.{Bool, true, false}
+use mathlib.Core.Bool.{Bool, true, false, cond}
 use mathlib.Core.List.{List}
 use Prim.Native.Nat.{ℕ}
 use Rattle.answers.specs.declared.Answer.{Answer}
@@ -24,6 +24,7 @@ use Rattle.channel.specs.Channel.{
   eraAfter,
   frameAfter,
   heardBy,
+  isTaken,
   modeAfter,
   notesAfter,
   ownAfter,
@@ -141,3 +142,16 @@ module _ (ch : Channel) (taken : Bool) (frame : List ℕ) where
   pub tick-refused : (a : Answer) → a ≡ answerOf ch x → isDone a ≡ false → ticked (refused ch a) frame ≡ tickedBy ch taken frame
   unfolding tickedBy frameAfter replied refused
   tick-refused a e d = rw (← e, d)
+
+-- a call that takes no frame sends none, and the lent one stays
+pub sent-not : (ch : Channel) (x : Call) → isTaken x ≡ false → replied ch x .sent ≡ false
+unfolding replied carriedOut refused sends
+sent-not ch x e = go (isDone (answerOf ch x))
+  where
+    go : (d : Bool) → cond d (carriedOut ch x) (refused ch (answerOf ch x)) .sent ≡ false
+    go true = rw e
+    go false = refl
+
+pub frame-kept : (ch : Channel) (x : Call) (frame : List ℕ) → isTaken x ≡ false → frameAfter ch x frame ≡ frame
+unfolding frameAfter
+frame-kept ch x frame e = rw (sent-not ch x e)

@@ -1,1 +1,2 @@
 mod Hex
+pub mod Cut
