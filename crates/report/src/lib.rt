@@ -7,7 +7,7 @@ use decision::state::Note;
 use decision::state::State;
 ghost use mathlib.Core.Path.{_≡_};
 ghost use mathlib.Core.List.{[], _∷_};
-ghost use Prim.Native.Nat.{_+_, _*_, _≤_};
+ghost use Prim.Native.Nat.{_+_, _*_, _≤_, _<_};
 ghost use lib.Dec.{eqb};
 ghost use lib.ListN.{length};
 ghost use Rattle.print.specs.Print.{Wrote};
@@ -15,6 +15,8 @@ ghost use Rattle.report.specs.Report.{
   changeWord,
   dashed,
   frameText,
+  headMost,
+  headText,
   letterOf,
   lineMost,
   lineText,
@@ -24,10 +26,11 @@ ghost use Rattle.report.specs.Report.{
   wordOf,
 };
 
-// The byte between two fields, and the one for a field without content.
-const TAB: u8 = b'\t';
+// The byte for a field without content.
+const DASH: u8 = b'-';
 
-pub const DASH: u8 = b'-';
+// The byte between two notes.
+const COMMA: u8 = b',';
 
 // The letter of a state.
 pub fn letter(s: State) -> u8
@@ -52,7 +55,7 @@ fn put_word(out: &mut [u8], first: usize, at: usize, a: u8, b: u8) -> usize
     if at == first {
         return print::put_pair(out, at, a, b);
     }
-    let p = print::put(out, at, b',');
+    let p = print::put(out, at, COMMA);
     print::put_pair(out, p, a, b)
 }
 
@@ -86,7 +89,7 @@ fn put_change(out: &mut [u8], first: usize, at: usize, changed: bool, b: u8) -> 
 
 // The dash where nothing was written since `first`.
 fn put_if_none(out: &mut [u8], first: usize, at: usize) -> usize
-    requires { ⌜ at + 1 ≤ length (now out) ⌝ }
+    requires { ⌜ first < length (now out) ⌝ }
     ensures { λ r. ⌜ Wrote (now (out .entry)) at (dashed (eqb at first)) (now (out .exit)) r ⌝ }
 {
     if at == first {
@@ -123,7 +126,18 @@ fn put_frame(out: &mut [u8], at: usize, frame: &[u8]) -> usize
 
 // ---- the line
 
-// The answer and the state are the bytes that are printed for them.
+// What stands before the notes.
+fn put_head(out: &mut [u8], at: usize, n: u64, answer: u8, state: u8) -> usize
+    requires { ⌜ at + headMost ≤ length (now out) ⌝ }
+    ensures { λ r. ⌜ Wrote (now (out .entry)) at (headText n answer state) (now (out .exit)) r ⌝ }
+{
+    let a = print::put_number(out, at, n);
+    let b = print::put_pair(out, a, fields::TAB, answer);
+    let c = print::put_pair(out, b, fields::TAB, state);
+    print::put(out, c, fields::TAB)
+}
+
+// A whole line. The answer and the state are the bytes that are printed for them.
 pub fn put_line(
     out: &mut [u8],
     at: usize,
@@ -136,12 +150,9 @@ pub fn put_line(
     requires { ⌜ at + lineMost + 2 * length (now frame) ≤ length (now out) ⌝ }
     ensures { λ r. ⌜ Wrote (now (out .entry)) at (lineText n answer state notes (now (frame .entry))) (now (out .exit)) r ⌝ }
 {
-    let a = print::put_number(out, at, n);
-    let b = print::put_pair(out, a, TAB, answer);
-    let c = print::put_pair(out, b, TAB, state);
-    let d = print::put(out, c, TAB);
-    let e = put_notes(out, d, notes);
-    let f = print::put(out, e, TAB);
-    let g = put_frame(out, f, frame);
-    print::put(out, g, b'\n')
+    let a = put_head(out, at, n, answer, state);
+    let b = put_notes(out, a, notes);
+    let c = print::put(out, b, fields::TAB);
+    let d = put_frame(out, c, frame);
+    print::put(out, d, text::LINE_FEED)
 }
