@@ -1,8 +1,8 @@
 -- Laws of notes, one behind the other. Assumes nothing.
 use mathlib.Core.Path.{_≡_, refl, sym, _∙_}
-use mathlib.Core.Bool.{Bool, true, false, cond}
+use mathlib.Core.Bool.{Bool, true, false}
 use mathlib.Core.List.{List, [], _∷_, _++_}
-use Prim.Native.Nat.{ℕ, suc, _+_, _≤_}
+use Prim.Native.Nat.{ℕ, _+_, _≤_}
 use native.Mathlib.Omega.{arith}
 use borrow.Author.Tests.{eq-eqb, ne-eqb}
 use lib.Dec.{eqb}
@@ -12,7 +12,7 @@ use Rattle.print.proofs.Wrote.{then}
 use Rattle.decision.specs.declared.state.Note.{Note}
 use Rattle.decision.specs.declared.state.Note.the-variants as notes
 use Rattle.channel.specs.declared.state.Notes.{Notes}
-use Rattle.report.specs.Report.{addWord, changeWord, dashed, notesMost, notesText, piece, wordOf, words}
+use Rattle.report.specs.Report.{addWord, changeWord, dashed, letterEi, letterEr, notesMost, notesText, piece, wordOf, words}
 
 -- a place behind a text is where the text begins exactly if the text is empty
 at-start : (i : ℕ) {p : ℕ} (t : List ℕ) → p ≡ i + length t → eqb p i ≡ eqb (length t) 0
@@ -72,7 +72,7 @@ module _ {l m : List ℕ} {i r : ℕ} where
   pub change-end : (b k : Bool) (x : ℕ) → Wrote l i (piece b (changeWord k x)) m r → r ≤ i + 3
   change-end b k x v = omega (arith, v .next, piece-most b (changeWord k x), change-most k x)
 
--- a word makes a text of at most k bytes one of at most three more, and no text one of two
+-- a word and its comma are three bytes
 word-adds : (t w : List ℕ) → length w ≤ 2 → length (addWord t w) ≤ length t + 3
 word-adds t w h = omega (arith, length-append t (piece (eqb (length t) 0) w), piece-most (eqb (length t) 0) w)
 
@@ -80,16 +80,17 @@ words-most : (n : Notes) → length (words n) ≤ notesMost
 words-most n =
     let a = addWord [] (wordOf (n .first)) in
     let b = addWord a (wordOf (n .second)) in
-    let c = addWord b (changeWord (n .eira) 73) in
+    let c = addWord b (changeWord (n .eira) letterEi) in
     omega (
       arith,
       first-piece (wordOf (n .first)),
       word-most (n .first),
       word-adds a (wordOf (n .second)) (word-most (n .second)),
-      word-adds b (changeWord (n .eira) 73) (change-most (n .eira) 73),
-      word-adds c (changeWord (n .era) 82) (change-most (n .era) 82),
+      word-adds b (changeWord (n .eira) letterEi) (change-most (n .eira) letterEi),
+      word-adds c (changeWord (n .era) letterEr) (change-most (n .era) letterEr),
     )
 
+-- a dash takes the place of no word
 dash-adds : (t : List ℕ) (k : ℕ) → 1 ≤ k → length t ≤ k → length (t ++ dashed (eqb (length t) 0)) ≤ k
 unfolding dashed
 dash-adds [] k e h = omega arith

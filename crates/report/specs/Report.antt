@@ -21,7 +21,7 @@ dash = 45
 abbrev pub comma : ℕ
 comma = 44
 
--- B P R N S
+-- the letter of a state: B P R N S
 unfoldable pub letterOf : State → ℕ
 letterOf states.BusSleep = 66
 letterOf states.PrepareBusSleep = 80
@@ -31,7 +31,7 @@ letterOf states.ReadySleep = 83
 
 -- ---- notes
 
--- NM ST PB BS TO RC RI
+-- the word of a note: NM ST PB BS TO RC RI
 unfoldable pub wordOf : Note → List ℕ
 wordOf notes.Nothing = []
 wordOf notes.NetworkMode = 78 ∷ 77 ∷ []
@@ -42,15 +42,23 @@ wordOf notes.Timeout = 84 ∷ 79 ∷ []
 wordOf notes.RemoteSleepCancelled = 82 ∷ 67 ∷ []
 wordOf notes.RemoteSleepIndication = 82 ∷ 73 ∷ []
 
--- EI and ER, by their second letter, where a vector changed
+-- the second letters of EI and ER
+abbrev pub letterEi : ℕ
+letterEi = 73
+
+abbrev pub letterEr : ℕ
+letterEr = 82
+
+-- EI or ER, by its second letter, where a vector changed
 unfoldable pub changeWord : Bool → ℕ → List ℕ
 changeWord changed b = cond changed (69 ∷ b ∷ []) []
 
--- a word behind what stands there: a comma parts two
+-- a word, behind a comma unless it is the first; no word is nothing
 unfoldable pub piece : Bool → List ℕ → List ℕ
 piece first [] = []
 piece first (a ∷ w) = cond first (a ∷ w) (comma ∷ a ∷ w)
 
+-- a word behind the words of a text
 abbrev pub addWord : List ℕ → List ℕ → List ℕ
 addWord t w = t ++ piece (eqb (length t) 0) w
 
@@ -58,10 +66,12 @@ addWord t w = t ++ piece (eqb (length t) 0) w
 unfoldable pub dashed : Bool → List ℕ
 dashed none = cond none (dash ∷ []) []
 
+-- the words of the notes in their order
 abbrev pub words : Notes → List ℕ
 words n =
-    addWord (addWord (addWord (addWord [] (wordOf (n .first))) (wordOf (n .second))) (changeWord (n .eira) 73)) (changeWord (n .era) 82)
+    addWord (addWord (addWord (addWord [] (wordOf (n .first))) (wordOf (n .second))) (changeWord (n .eira) letterEi)) (changeWord (n .era) letterEr)
 
+-- the notes, none being a dash
 unfoldable pub notesText : Notes → List ℕ
 notesText n = words n ++ dashed (eqb (length (words n)) 0)
 
@@ -70,6 +80,7 @@ abbrev pub notesMost : ℕ
 notesMost = 11
 
 -- ---- the frame: in hex, none being a dash
+
 unfoldable pub frameText : List ℕ → List ℕ
 frameText frame = cond (eqb (length frame) 0) (dash ∷ []) (hexText frame)
 
@@ -79,6 +90,7 @@ frameText frame = cond (eqb (length frame) 0) (dash ∷ []) (hexText frame)
 unfoldable pub headText : ℕ → ℕ → ℕ → List ℕ
 headText n answer state = ((numberText n ++ (tab ∷ answer ∷ [])) ++ (tab ∷ state ∷ [])) ++ (tab ∷ [])
 
+-- the whole line, with the line feed that ends it
 unfoldable pub lineText : ℕ → ℕ → ℕ → Notes → List ℕ → List ℕ
 lineText n answer state notes frame =
     (((headText n answer state ++ notesText notes) ++ (tab ∷ [])) ++ frameText frame) ++ (lineFeed ∷ [])

@@ -1,7 +1,8 @@
 // A line that a trace prints: number, answer, state, notes and frame.
 //
 // Promises: the text of specs/Report in the lent buffer from a place on, and no other byte changed. Leaves to others:
-// what a line's answer is (`trace`).
+// what a line's answer is (`trace`), and that the buffer has room. The caller counts the room once for all bytes of a
+// line (`length-line`), so that no writer tests it byte by byte.
 use channel::state::Notes;
 use decision::state::Note;
 use decision::state::State;
@@ -47,7 +48,7 @@ pub fn letter(s: State) -> u8
 
 // ---- notes
 
-// A word of two letters, behind a comma unless it is the first.
+// A word of two letters, behind a comma unless it is the first. There must be room for both.
 fn put_word(out: &mut [u8], first: usize, at: usize, a: u8, b: u8) -> usize
     requires { ⌜ at + 3 ≤ length (now out) ⌝ }
     ensures { λ r. ⌜ Wrote (now (out .entry)) at (piece (eqb at first) (a ∷ b ∷ [])) (now (out .exit)) r ⌝ }
@@ -59,7 +60,7 @@ fn put_word(out: &mut [u8], first: usize, at: usize, a: u8, b: u8) -> usize
     print::put_pair(out, p, a, b)
 }
 
-// A note, none where there is nothing to tell.
+// The word of a note, none where there is nothing to tell. There must be room for a word behind a comma.
 fn put_note(out: &mut [u8], first: usize, at: usize, n: Note) -> usize
     requires { ⌜ at + 3 ≤ length (now out) ⌝ }
     ensures { λ r. ⌜ Wrote (now (out .entry)) at (piece (eqb at first) (wordOf n)) (now (out .exit)) r ⌝ }
@@ -76,7 +77,7 @@ fn put_note(out: &mut [u8], first: usize, at: usize, n: Note) -> usize
     }
 }
 
-// EI or ER, by its second letter, where a vector changed.
+// EI or ER, by its second letter, where a vector changed. There must be room for a word behind a comma.
 fn put_change(out: &mut [u8], first: usize, at: usize, changed: bool, b: u8) -> usize
     requires { ⌜ at + 3 ≤ length (now out) ⌝ }
     ensures { λ r. ⌜ Wrote (now (out .entry)) at (piece (eqb at first) (changeWord changed b)) (now (out .exit)) r ⌝ }
@@ -87,7 +88,7 @@ fn put_change(out: &mut [u8], first: usize, at: usize, changed: bool, b: u8) -> 
     at
 }
 
-// The dash where nothing was written since `first`.
+// The dash where nothing was written since `first`. There must be room for it there.
 fn put_if_none(out: &mut [u8], first: usize, at: usize) -> usize
     requires { ⌜ first < length (now out) ⌝ }
     ensures { λ r. ⌜ Wrote (now (out .entry)) at (dashed (eqb at first)) (now (out .exit)) r ⌝ }
@@ -98,7 +99,7 @@ fn put_if_none(out: &mut [u8], first: usize, at: usize) -> usize
     at
 }
 
-// The notes in their order.
+// The notes in their order, or the dash. There must be room for four words.
 fn put_notes(out: &mut [u8], at: usize, n: Notes) -> usize
     requires { ⌜ at + notesMost ≤ length (now out) ⌝ }
     ensures { λ r. ⌜ Wrote (now (out .entry)) at (notesText n) (now (out .exit)) r ⌝ }
@@ -114,8 +115,9 @@ fn put_notes(out: &mut [u8], at: usize, n: Notes) -> usize
 
 // ---- the frame
 
+// The frame in hex, or the dash. There must be room for either.
 fn put_frame(out: &mut [u8], at: usize, frame: &[u8]) -> usize
-    requires { ⌜ (at + 1 + 2 * length (now frame)) ≤ length (now out) ⌝ }
+    requires { ⌜ at + 1 + 2 * length (now frame) ≤ length (now out) ⌝ }
     ensures { λ r. ⌜ Wrote (now (out .entry)) at (frameText (now (frame .entry))) (now (out .exit)) r ⌝ }
 {
     if frame.len() == 0 {
@@ -126,7 +128,7 @@ fn put_frame(out: &mut [u8], at: usize, frame: &[u8]) -> usize
 
 // ---- the line
 
-// What stands before the notes.
+// What stands before the notes. There must be room for the longest number.
 fn put_head(out: &mut [u8], at: usize, n: u64, answer: u8, state: u8) -> usize
     requires { ⌜ at + headMost ≤ length (now out) ⌝ }
     ensures { λ r. ⌜ Wrote (now (out .entry)) at (headText n answer state) (now (out .exit)) r ⌝ }
@@ -137,7 +139,8 @@ fn put_head(out: &mut [u8], at: usize, n: u64, answer: u8, state: u8) -> usize
     print::put(out, c, fields::TAB)
 }
 
-// A whole line. The answer and the state are the bytes that are printed for them.
+// A whole line. The answer and the state are the bytes that are printed for them. There must be room for the longest
+// line with such a frame.
 pub fn put_line(
     out: &mut [u8],
     at: usize,

@@ -1,11 +1,9 @@
 -- `report::put_notes` meets its contract. Assumes nothing.
-use mathlib.Core.Path.{_≡_, refl}
 use Prim.Native.Nat.{_+_, _≤_}
 use native.Mathlib.Omega.{arith}
 use borrow.Author.Needs.{needs}
-use lib.ListN.{length}
 use Rattle.print.proofs.Wrote.{wrote-none}
-use Rattle.report.specs.Report.{changeWord, notesText, piece, wordOf}
+use Rattle.report.specs.Report.{notesText}
 use Rattle.report.proofs.Notes.{then-word, then-dash, first-end, note-end, change-end}
 use Rattle.report.proofs.put_notes.Statement.{statement}
 use Rattle.report.proofs.put_notes.Tie as tie
