@@ -15,7 +15,7 @@ ghost use Rattle.fields.specs.Numbers.{decimalOf, digitsMost, numberFrom
 pub mod names;
 
 // The byte between two fields.
-const TAB: u8 = b'\t';
+pub const TAB: u8 = b'\t';
 
 // The most digits that a number may have.
 const DIGITS_MOST: usize = 10;

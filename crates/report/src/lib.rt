@@ -1,13 +1,14 @@
 // A line that a trace prints: number, answer, state, notes and frame.
 //
 // Promises: the text of specs/Report in the lent buffer from a place on, and no other byte changed. Leaves to others:
-// what a line's answer is (`trace`).
+// what a line's answer is (`trace`), and that the buffer has room. The caller counts the room once for all bytes of a
+// line (`length-line`), so that no writer tests it byte by byte.
 use channel::state::Notes;
 use decision::state::Note;
 use decision::state::State;
 ghost use mathlib.Core.Path.{_≡_};
 ghost use mathlib.Core.List.{[], _∷_};
-ghost use Prim.Native.Nat.{_+_, _*_, _≤_};
+ghost use Prim.Native.Nat.{_+_, _*_, _≤_, _<_};
 ghost use lib.Dec.{eqb};
 ghost use lib.ListN.{length};
 ghost use Rattle.print.specs.Print.{Wrote};
@@ -15,6 +16,8 @@ ghost use Rattle.report.specs.Report.{
   changeWord,
   dashed,
   frameText,
+  headMost,
+  headText,
   letterOf,
   lineMost,
   lineText,
@@ -24,10 +27,11 @@ ghost use Rattle.report.specs.Report.{
   wordOf,
 };
 
-// The byte between two fields, and the one for a field without content.
-const TAB: u8 = b'\t';
+// The byte for a field without content.
+const DASH: u8 = b'-';
 
-pub const DASH: u8 = b'-';
+// The byte between two notes.
+const COMMA: u8 = b',';
 
 // The letter of a state.
 pub fn letter(s: State) -> u8
@@ -44,7 +48,7 @@ pub fn letter(s: State) -> u8
 
 // ---- notes
 
-// A word of two letters, behind a comma unless it is the first.
+// A word of two letters, behind a comma unless it is the first. There must be room for both.
 fn put_word(out: &mut [u8], first: usize, at: usize, a: u8, b: u8) -> usize
     requires { ⌜ at + 3 ≤ length (now out) ⌝ }
     ensures { λ r. ⌜ Wrote (now (out .entry)) at (piece (eqb at first) (a ∷ b ∷ [])) (now (out .exit)) r ⌝ }
@@ -52,11 +56,11 @@ fn put_word(out: &mut [u8], first: usize, at: usize, a: u8, b: u8) -> usize
     if at == first {
         return print::put_pair(out, at, a, b);
     }
-    let p = print::put(out, at, b',');
+    let p = print::put(out, at, COMMA);
     print::put_pair(out, p, a, b)
 }
 
-// A note, none where there is nothing to tell.
+// The word of a note, none where there is nothing to tell. There must be room for a word behind a comma.
 fn put_note(out: &mut [u8], first: usize, at: usize, n: Note) -> usize
     requires { ⌜ at + 3 ≤ length (now out) ⌝ }
     ensures { λ r. ⌜ Wrote (now (out .entry)) at (piece (eqb at first) (wordOf n)) (now (out .exit)) r ⌝ }
@@ -73,7 +77,7 @@ fn put_note(out: &mut [u8], first: usize, at: usize, n: Note) -> usize
     }
 }
 
-// EI or ER, by its second letter, where a vector changed.
+// EI or ER, by its second letter, where a vector changed. There must be room for a word behind a comma.
 fn put_change(out: &mut [u8], first: usize, at: usize, changed: bool, b: u8) -> usize
     requires { ⌜ at + 3 ≤ length (now out) ⌝ }
     ensures { λ r. ⌜ Wrote (now (out .entry)) at (piece (eqb at first) (changeWord changed b)) (now (out .exit)) r ⌝ }
@@ -84,9 +88,9 @@ fn put_change(out: &mut [u8], first: usize, at: usize, changed: bool, b: u8) -> 
     at
 }
 
-// The dash where nothing was written since `first`.
+// The dash where nothing was written since `first`. There must be room for it there.
 fn put_if_none(out: &mut [u8], first: usize, at: usize) -> usize
-    requires { ⌜ at + 1 ≤ length (now out) ⌝ }
+    requires { ⌜ first < length (now out) ⌝ }
     ensures { λ r. ⌜ Wrote (now (out .entry)) at (dashed (eqb at first)) (now (out .exit)) r ⌝ }
 {
     if at == first {
@@ -95,7 +99,7 @@ fn put_if_none(out: &mut [u8], first: usize, at: usize) -> usize
     at
 }
 
-// The notes in their order.
+// The notes in their order, or the dash. There must be room for four words.
 fn put_notes(out: &mut [u8], at: usize, n: Notes) -> usize
     requires { ⌜ at + notesMost ≤ length (now out) ⌝ }
     ensures { λ r. ⌜ Wrote (now (out .entry)) at (notesText n) (now (out .exit)) r ⌝ }
@@ -111,8 +115,9 @@ fn put_notes(out: &mut [u8], at: usize, n: Notes) -> usize
 
 // ---- the frame
 
+// The frame in hex, or the dash. There must be room for either.
 fn put_frame(out: &mut [u8], at: usize, frame: &[u8]) -> usize
-    requires { ⌜ (at + 1 + 2 * length (now frame)) ≤ length (now out) ⌝ }
+    requires { ⌜ at + 1 + 2 * length (now frame) ≤ length (now out) ⌝ }
     ensures { λ r. ⌜ Wrote (now (out .entry)) at (frameText (now (frame .entry))) (now (out .exit)) r ⌝ }
 {
     if frame.len() == 0 {
@@ -123,7 +128,19 @@ fn put_frame(out: &mut [u8], at: usize, frame: &[u8]) -> usize
 
 // ---- the line
 
-// The answer and the state are the bytes that are printed for them.
+// What stands before the notes. There must be room for the longest number.
+fn put_head(out: &mut [u8], at: usize, n: u64, answer: u8, state: u8) -> usize
+    requires { ⌜ at + headMost ≤ length (now out) ⌝ }
+    ensures { λ r. ⌜ Wrote (now (out .entry)) at (headText n answer state) (now (out .exit)) r ⌝ }
+{
+    let a = print::put_number(out, at, n);
+    let b = print::put_pair(out, a, fields::TAB, answer);
+    let c = print::put_pair(out, b, fields::TAB, state);
+    print::put(out, c, fields::TAB)
+}
+
+// A whole line. The answer and the state are the bytes that are printed for them. There must be room for the longest
+// line with such a frame.
 pub fn put_line(
     out: &mut [u8],
     at: usize,
@@ -136,12 +153,9 @@ pub fn put_line(
     requires { ⌜ at + lineMost + 2 * length (now frame) ≤ length (now out) ⌝ }
     ensures { λ r. ⌜ Wrote (now (out .entry)) at (lineText n answer state notes (now (frame .entry))) (now (out .exit)) r ⌝ }
 {
-    let a = print::put_number(out, at, n);
-    let b = print::put_pair(out, a, TAB, answer);
-    let c = print::put_pair(out, b, TAB, state);
-    let d = print::put(out, c, TAB);
-    let e = put_notes(out, d, notes);
-    let f = print::put(out, e, TAB);
-    let g = put_frame(out, f, frame);
-    print::put(out, g, b'\n')
+    let a = put_head(out, at, n, answer, state);
+    let b = put_notes(out, a, notes);
+    let c = print::put(out, b, fields::TAB);
+    let d = put_frame(out, c, frame);
+    print::put(out, d, text::LINE_FEED)
 }

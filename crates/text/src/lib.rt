@@ -12,7 +12,7 @@ ghost use Rattle.text.specs.Filled.{filled};
 ghost use Rattle.text.specs.Lines.{lineFeed, readerAt, spanAt, until};
 
 // The byte that ends a line.
-const LINE_FEED: u8 = 10;
+pub const LINE_FEED: u8 = 10;
 
 // The most bytes that a line may have. One byte more tells that it is too long, so no more of it is kept.
 pub const LINE_MOST: usize = 80;

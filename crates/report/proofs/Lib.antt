@@ -1,0 +1,2 @@
+mod Notes
+pub mod Line
