@@ -137,7 +137,7 @@ withPartial c t pairs mask =
       immediate = c .immediate;
       node = c .node;
       passive = c .passive;
-      layout = record { length = c .layout .length; sni = c .layout .sni; cbv = c .layout .cbv };
+      layout = c .layout;
       pn =
           record {
             on = true;

@@ -183,7 +183,7 @@ pub fn is_partial(l: &[u8]) -> bool
     name_of(l) == names::PN
 }
 
-// What stands behind the first tab; nothing where there is none.
+// What stands behind the first tab; nothing where there is none, since no part begins past the end.
 fn behind_tab<'a>(l: &'a [u8]) -> &'a [u8]
     ensures { λ r. ⌜ now r ≡ behindTab (now (l .entry)) ⌝ }
 {
@@ -222,6 +222,7 @@ fn partial_reads(t: &[u64; CFG_FIELDS]) -> bool
 fn with_partial(c: Config, t: &[u64; CFG_FIELDS], pairs: usize, mask: &[u8; 8]) -> Config
     ensures { λ r. ⌜ r ≡ withPartial c (now (t .entry)) pairs (now (mask .entry)) ⌝ }
 {
+    let layout = c.layout;
     Config {
         period: c.period,
         times: Times {
@@ -237,11 +238,7 @@ fn with_partial(c: Config, t: &[u64; CFG_FIELDS], pairs: usize, mask: &[u8; 8]) 
         immediate: c.immediate,
         node: c.node,
         passive: c.passive,
-        layout: Layout {
-            length: c.layout.length,
-            sni: c.layout.sni,
-            cbv: c.layout.cbv,
-        },
+        layout,
         pn: Partial {
             on: true,
             start: t[1],

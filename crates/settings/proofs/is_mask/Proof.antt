@@ -15,7 +15,7 @@ returns-2 : tie.Need-returns-2
 unfolding isMask
 returns-2 c =
     let a = c .before .before .args in
-    rw (lt-ltb 0 (a .pairs) (omega arith), same-eqb (a .bytes - a .pairs) (a .pairs) (2 * a .pairs) (a .bytes) (λ h. omega arith) (λ h. omega arith))
+    rw (lt-ltb 0 (a .pairs) (omega arith)) (same-eqb (a .bytes - a .pairs) (a .pairs) (2 * a .pairs) (a .bytes) (λ h. omega arith) (λ h. omega arith))
 
 returns-3 : tie.Need-returns-3
 unfolding isMask
