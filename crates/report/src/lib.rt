@@ -88,12 +88,12 @@ fn put_change(out: &mut [u8], first: usize, at: usize, changed: bool, b: u8) -> 
     at
 }
 
-// The dash where nothing was written since `first`. There must be room for it there.
-fn put_if_none(out: &mut [u8], first: usize, at: usize) -> usize
-    requires { ⌜ first < length (now out) ⌝ }
-    ensures { λ r. ⌜ Wrote (now (out .entry)) at (dashed (eqb at first)) (now (out .exit)) r ⌝ }
+// The dash where nothing was written since `start`. There must be room for it there.
+fn put_if_none(out: &mut [u8], start: usize, at: usize) -> usize
+    requires { ⌜ start < length (now out) ⌝ }
+    ensures { λ r. ⌜ Wrote (now (out .entry)) at (dashed (eqb at start)) (now (out .exit)) r ⌝ }
 {
-    if at == first {
+    if at == start {
         return print::put(out, at, DASH);
     }
     at

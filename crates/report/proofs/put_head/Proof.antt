@@ -9,10 +9,6 @@ use Rattle.report.specs.Report.{headText}
 use Rattle.report.proofs.put_head.Statement.{statement}
 use Rattle.report.proofs.put_head.Tie as tie
 
--- where the number ends at most
-number-done : (c : tie.After-put-number) → c .put-number .result ≤ c .before .before .before .args .at + digitsMost
-number-done c = omega (arith, length-decimal digitsMost (c .before .before .before .args .n))
-
 returns : tie.Need-returns
 unfolding headText
 returns c =
@@ -21,6 +17,10 @@ returns c =
     let p = q .before .before .before .before in
     let o = p .before .before .before .before in
     then (then (then (o .put-number .ensures) (p .put-pair .ensures)) (q .put-pair2 .ensures)) (r .put .ensures)
+
+-- where the number ends at most
+number-done : (c : tie.After-put-number) → c .put-number .result ≤ c .before .before .before .args .at + digitsMost
+number-done c = omega (arith, length-decimal digitsMost (c .before .before .before .args .n))
 
 pub put-head-spec : {M : Type 1} → statement M
 put-head-spec =

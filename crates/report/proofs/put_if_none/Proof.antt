@@ -1,4 +1,5 @@
 -- `report::put_if_none` meets its contract. Assumes nothing.
+use mathlib.Core.Path.{_≡_}
 use native.Mathlib.Omega.{arith}
 use borrow.Author.Needs.{needs}
 use borrow.Author.Tests.{eq-eqb, ne-eqb}
@@ -9,7 +10,11 @@ use Rattle.report.proofs.put_if_none.Tie as tie
 
 returns : tie.Need-returns
 unfolding dashed
-returns c = rw (eq-eqb _ _ (c .before .before .before .before .if1 .taken)) (c .before .before .put .ensures)
+returns c =
+    let b = c .before .before .before .before in
+    let a = b .before .before .args in
+    let e : a .at ≡ a .start = b .if1 .taken in
+    rw (eq-eqb _ _ e) (c .before .before .put .ensures)
 
 returns-2 : tie.Need-returns-2
 unfolding dashed

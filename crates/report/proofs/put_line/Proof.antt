@@ -10,16 +10,6 @@ use Rattle.report.proofs.Line.{length-head, length-frame}
 use Rattle.report.proofs.put_line.Statement.{statement}
 use Rattle.report.proofs.put_line.Tie as tie
 
--- where the head, the notes and the frame end at most
-head-done : (c : tie.After-put-head) → c .put-head .result ≤ c .before .before .before .before .args .at + headMost
-head-done c = let a = c .before .before .before .before .args in omega (arith, length-head (a .n) (a .answer) (a .state))
-
-notes-done : (c : tie.After-put-notes) → c .put-notes .result ≤ c .before .before .before .before .put-head .result + notesMost
-notes-done c = omega (arith, length-notes (c .before .before .before .before .before .before .before .before .args .notes))
-
-frame-done : (c : tie.After-put-frame) → c .put-frame .result ≤ c .before .before .before .before .before .before .before .before .put-notes .result + 2 + 2 * length (c .before .before .before .before .before .before .before .before .before .before .before .before .before .before .before .before .args .frame .now)
-frame-done c = omega (arith, length-frame (c .before .before .before .before .before .before .before .before .before .before .before .before .before .before .before .before .args .frame .now))
-
 returns : tie.Need-returns
 unfolding lineText
 returns c =
@@ -29,6 +19,16 @@ returns c =
     let p = q .before .before .before .before in
     let o = p .before .before .before .before in
     then (then (then (then (o .put-head .ensures) (p .put-notes .ensures)) (q .put .ensures)) (r .put-frame .ensures)) (s .put2 .ensures)
+
+-- where the head, the notes and the frame end at most
+head-done : (c : tie.After-put-head) → c .put-head .result ≤ c .before .before .before .before .args .at + headMost
+head-done c = let a = c .before .before .before .before .args in omega (arith, length-head (a .n) (a .answer) (a .state))
+
+notes-done : (c : tie.After-put-notes) → c .put-notes .result ≤ c .before .before .before .before .put-head .result + notesMost
+notes-done c = omega (arith, length-notes (c .before .before .before .before .before .before .before .before .args .notes))
+
+frame-done : (c : tie.After-put-frame) → c .put-frame .result ≤ c .before .before .before .before .before .before .before .before .put-notes .result + 2 + 2 * length (c .before .before .before .before .before .before .before .before .before .before .before .before .before .before .before .before .args .frame .now)
+frame-done c = omega (arith, length-frame (c .before .before .before .before .before .before .before .before .before .before .before .before .before .before .before .before .args .frame .now))
 
 pub put-line-spec : {M : Type 1} → statement M
 put-line-spec =
