@@ -1,5 +1,5 @@
 -- Laws of hex pairs, for every place. Assumes nothing.
-use mathlib.Core.Path.{_≡_, refl, sym, ap, _∙_}
+use mathlib.Core.Path.{_≡_, refl}
 use mathlib.Core.Bool.{Bool, true, false, cond, _&&_}
 use mathlib.Core.List.{List, [], _∷_}
 use Prim.Native.Nat.{ℕ, suc, _+_, _*_, _%_, _≤_, _<_}
@@ -72,3 +72,15 @@ module _ (s : List ℕ) (i : ℕ) where
       pub pairs-more : l ≤ 15 → hexPairs (drop i s) ≡ (h * 16 + l) ∷ hexPairs (drop (i + 2) s)
       unfolding hexPairs
       pairs-more e = rw (two room, ← high, ← low, le-ltb 15 h fits, le-ltb 15 l e)
+
+-- pairs have half as many bytes as digits
+pub pairs-short : (s : List ℕ) → 2 * length (hexPairs s) ≤ length s
+unfolding hexPairs
+pairs-short [] = omega arith
+pairs-short (h ∷ []) = omega arith
+pairs-short (h ∷ l ∷ s) = by-test (ltb 15 (hexValue h)) (ltb 15 (hexValue l)) (pairs-short s)
+  where
+    by-test : (t u : Bool) → 2 * length (hexPairs s) ≤ length s → 2 * length (cond t [] (cond u [] ((hexValue h * 16 + hexValue l) ∷ hexPairs s))) ≤ suc (suc (length s))
+    by-test true u k = omega arith
+    by-test false true k = omega arith
+    by-test false false k = omega arith

@@ -1,3 +1,4 @@
+pub mod Filled
 pub mod Lines
 pub mod Whole
 pub mod Blocks
