@@ -2,3 +2,4 @@ pub mod Filled
 pub mod Lines
 pub mod Whole
 pub mod Blocks
+pub mod Examples
