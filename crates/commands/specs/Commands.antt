@@ -33,7 +33,7 @@ use Rattle.commands.specs.declared.Asked.the-variants.{Unreadable, Call}
 
 abbrev pub aloneTable : List Asked
 aloneTable =
-    Unreadable ∷ Unreadable ∷ Call NetworkRequest ∷ Call NetworkRelease ∷ Call PassiveStartUp ∷ Call RepeatMessageRequest
+    Call NetworkRequest ∷ Call NetworkRelease ∷ Call PassiveStartUp ∷ Call RepeatMessageRequest
     ∷ Call DisableCommunication
     ∷ Call EnableCommunication
     ∷ Call (TxConfirmation true)
@@ -57,8 +57,8 @@ tickOf a =
 unfoldable pub withBytes : ℕ → ℕ → Asked
 withBytes name n =
     cond (eqb n 0) Unreadable
-    (cond (eqb name 1) (Call (RxIndication n))
-    (cond (eqb name 11) (Call (SetUserData n)) (cond (eqb name 12) (Call (SetPnRequests n)) Unreadable)))
+    (cond (eqb name 9) (Call (RxIndication n))
+    (cond (eqb name 10) (Call (SetUserData n)) (cond (eqb name 11) (Call (SetPnRequests n)) Unreadable)))
 
 -- the bytes of a text in hex, in front of a buffer, and how many they are: 0 where it is not hex throughout
 unfoldable pub hexRead : List ℕ → List ℕ → Filled
@@ -75,7 +75,7 @@ readAs a bytes = record { asked = a; bytes = bytes }
 
 unfoldable pub argued : ℕ → List ℕ → List ℕ → Reading
 argued name a bytes =
-    cond (eqb name 0) (readAs (tickOf a) bytes) (readAs (withBytes name (hexRead a bytes .count)) (hexRead a bytes .list))
+    cond (eqb name 12) (readAs (tickOf a) bytes) (readAs (withBytes name (hexRead a bytes .count)) (hexRead a bytes .list))
 
 -- ---- a line: too long, or a name with what stands behind its tab, or a name alone
 unfoldable pub reading : List ℕ → List ℕ → Reading

@@ -34,7 +34,6 @@ fn alone(name: usize) -> Asked
     ensures { λ r. ⌜ r ≡ alone name ⌝ }
 {
     match name {
-        0..=1 => Asked::Unreadable,
         names::REQ => Asked::Call(Command::NetworkRequest),
         names::REL => Asked::Call(Command::NetworkRelease),
         names::PAS => Asked::Call(Command::PassiveStartUp),

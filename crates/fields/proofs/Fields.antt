@@ -52,3 +52,17 @@ module _ (s : List ℕ) (at : ℕ) where
       let b : e + 1 ≡ at + suc n = omega arith in
       let d : length (drop at s) ≡ length s - at = length-drop at s in
       rw (le-leb at (length s) h, fields-step (drop at s), a, b, drop-drop (suc n) at s, same-leb (suc n) (length (drop at s)) (at + suc n) (length s) (λ x. omega arith) (λ x. omega arith))
+
+before-length : (x : ℕ) (ls : List (List ℕ)) → length (before x ls) ≤ 1 + length ls
+before-length x [] = omega arith
+before-length x (l ∷ ls) = omega arith
+
+-- a line has at most one field more than bytes
+pub fields-short : (s : List ℕ) → length (fieldsOf s) ≤ 1 + length s
+unfolding fieldsOf
+fields-short [] = omega arith
+fields-short (x ∷ xs) = by-byte (eqb x tab) (fields-short xs)
+  where
+    by-byte : (t : Bool) → length (fieldsOf xs) ≤ 1 + length xs → length (cond t ([] ∷ fieldsOf xs) (before x (fieldsOf xs))) ≤ 1 + suc (length xs)
+    by-byte true h = omega arith
+    by-byte false h = omega (arith, before-length x (fieldsOf xs))

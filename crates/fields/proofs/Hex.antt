@@ -1,31 +1,43 @@
 -- Laws of hex pairs, for every place. Assumes nothing.
-use mathlib.Core.Path.{_≡_, refl, sym, ap, _∙_}
+use mathlib.Core.Path.{_≡_, refl}
+use mathlib.Core.Bool.{Bool, true, false, cond, _&&_}
 use mathlib.Core.List.{List, [], _∷_}
-use Prim.Native.Nat.{ℕ, suc, _+_, _-_, _*_, _≤_, _<_}
+use Prim.Native.Nat.{ℕ, suc, _+_, _*_, _%_, _≤_, _<_}
 use native.Mathlib.Numerals.{add-one}
 use native.Mathlib.Omega.{arith}
+use lib.Dec.{leb, ltb}
 use lib.ListN.{length, drop, getD, length-drop}
 use lib.Seq.{drop-cons}
-use borrow.Author.Tests.{lt-ltb, le-ltb, le-leb, lt-leb}
+use borrow.Author.Tests.{lt-ltb, le-ltb, le-leb, ltb-true, ltb-false, leb-true}
 use Rattle.fields.specs.Hex.{hexValue, hexPairs}
 
--- ---- the value of a digit, by where it stands among the bytes
+-- ---- the value of a digit
 
-module _ (d : ℕ) where
-  pub value-below : d < 48 → 16 ≡ hexValue d
-  value-below h = rw (lt-ltb d 48 h)
+inside : (a b d : ℕ) → a ≤ d → d ≤ b → (leb a d && leb d b) ≡ true
+inside a b d h k = rw (le-leb a d h, le-leb d b k)
 
-  pub value-decimal : 48 ≤ d → d ≤ 57 → d - 48 ≡ hexValue d
-  value-decimal h e = rw (le-ltb d 48 h, le-leb d 57 e)
+outside : (a b d : ℕ) → (a ≤ d → d ≤ b → ⊥) → (leb a d && leb d b) ≡ false
+outside a b d n = by-test (leb a d) (leb d b) refl refl
+  where
+    by-test : (t u : Bool) → leb a d ≡ t → leb d b ≡ u → (t && u) ≡ false
+    by-test true true p q = absurd (n (leb-true a d p) (leb-true d b q))
+    by-test true false p q = refl
+    by-test false u p q = refl
 
-  pub value-between : 57 < d → d < 65 → 16 ≡ hexValue d
-  value-between h e = rw (le-ltb d 48 (omega arith), lt-leb d 57 h, lt-ltb d 65 e)
-
-  pub value-letter : 65 ≤ d → d ≤ 70 → d - 65 + 10 ≡ hexValue d
-  value-letter h e = rw (le-ltb d 48 (omega arith), lt-leb d 57 (omega arith), le-ltb d 65 h, le-leb d 70 e)
-
-  pub value-above : 70 < d → 16 ≡ hexValue d
-  value-above h = rw (le-ltb d 48 (omega arith), lt-leb d 57 (omega arith), le-ltb d 65 (omega arith), lt-leb d 70 h)
+-- by what is left of the byte above '0', above 'A' and above ten less than 'A', which wraps where it is below
+pub value-by : (d x y z : ℕ) → d < 256 → x < 256 → y < 256 → z < 256 → (x + 48) % 256 ≡ d → (y + 65) % 256 ≡ d → (z + 55) % 256 ≡ d
+    → cond (ltb x 10) x (cond (ltb y 6) z 16) ≡ hexValue d
+value-by d x y z hd hx hy hz e f g = by-test (ltb x 10) (ltb y 6) refl refl
+  where
+    by-test : (t u : Bool) → ltb x 10 ≡ t → ltb y 6 ≡ u → cond t x (cond u z 16) ≡ hexValue d
+    by-test true u p q = let l = ltb-true x 10 p in rw (inside 48 57 d (omega arith) (omega arith)) (omega arith)
+    by-test false true p q =
+        let l = ltb-true y 6 q in
+        rw (outside 48 57 d (λ a b. omega arith), inside 65 70 d (omega arith) (omega arith)) (omega arith)
+    by-test false false p q =
+        let l = ltb-false x 10 p in
+        let m = ltb-false y 6 q in
+        rw (outside 48 57 d (λ a b. omega arith), outside 65 70 d (λ a b. omega arith))
 
 -- ---- pairs from a place on
 
@@ -60,3 +72,15 @@ module _ (s : List ℕ) (i : ℕ) where
       pub pairs-more : l ≤ 15 → hexPairs (drop i s) ≡ (h * 16 + l) ∷ hexPairs (drop (i + 2) s)
       unfolding hexPairs
       pairs-more e = rw (two room, ← high, ← low, le-ltb 15 h fits, le-ltb 15 l e)
+
+-- pairs have half as many bytes as digits
+pub pairs-short : (s : List ℕ) → 2 * length (hexPairs s) ≤ length s
+unfolding hexPairs
+pairs-short [] = omega arith
+pairs-short (h ∷ []) = omega arith
+pairs-short (h ∷ l ∷ s) = by-test (ltb 15 (hexValue h)) (ltb 15 (hexValue l)) (pairs-short s)
+  where
+    by-test : (t u : Bool) → 2 * length (hexPairs s) ≤ length s → 2 * length (cond t [] (cond u [] ((hexValue h * 16 + hexValue l) ∷ hexPairs s))) ≤ suc (suc (length s))
+    by-test true u k = omega arith
+    by-test false true k = omega arith
+    by-test false false k = omega arith

@@ -3,3 +3,4 @@ pub mod Filling
 pub mod Numbers
 pub mod Hex
 pub mod Packing
+pub mod Examples

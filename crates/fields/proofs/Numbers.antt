@@ -1,16 +1,19 @@
 -- Laws of numbers by their text. Assumes nothing.
-use mathlib.Core.Path.{_≡_, refl, sym, ap, _∙_}
-use mathlib.Core.Bool.{Bool, true, false, cond}
+use mathlib.Core.Path.{_≡_, refl}
+use mathlib.Core.Bool.{Bool, true, false, cond, _&&_}
 use mathlib.Core.List.{List, [], _∷_}
 use mathlib.Core.Logic.{_⊎_, inl, inr}
-use Prim.Native.Nat.{ℕ, zero, suc, _+_, _-_, _*_, _^_, _≤_, _<_}
+use Prim.Native.Nat.{ℕ, _+_, _-_, _*_, _^_, _≤_, _<_}
 use native.Mathlib.Nat.{pow-suc, pow-le-pow-right}
 use native.Mathlib.Numerals.{add-one}
 use native.Mathlib.Omega.{arith}
-use lib.ListN.{length, drop, getD, drop-of-length-le}
+use lib.ListN.{length, drop, getD, drop-of-length-le, length-map}
 use lib.Seq.{drop-cons}
-use borrow.Author.Tests.{lt-ltb, le-ltb, eq-eqb, ne-eqb}
-use Rattle.fields.specs.Numbers.{dash, decimalOf, digitsMost, numberFrom, tokenOf, unreadable}
+use lib.Dec.{eqb, ltb}
+use borrow.Author.Tests.{lt-ltb, le-ltb, eq-eqb, ne-eqb, ltb-false}
+use Rattle.fields.specs.Fields.{fieldsOf}
+use Rattle.fields.specs.Numbers.{dash, decimalOf, digitsMost, numberFrom, tokenOf, tokensOf, unreadable}
+use Rattle.fields.proofs.Fields.{fields-short}
 
 -- ---- reading digits
 
@@ -77,3 +80,33 @@ module _ (f : List ℕ) where
   pub token-else : (length f ≡ 1 → ⊥) → decimalOf f ≡ tokenOf f
   unfolding tokenOf
   token-else h = rw (ne-eqb (length f) 1 h)
+
+-- ---- what can be read
+
+-- digits make a number below the dash, or what is unreadable
+digits-told : (s : List ℕ) (n i : ℕ) → n < 10 ^ i → i + length s ≤ digitsMost → (numberFrom n s < dash) ⊎ (numberFrom n s ≡ unreadable)
+unfolding numberFrom
+digits-told [] n i h l = inl (small n i h (omega arith))
+digits-told (d ∷ s) n i h l = by-test (ltb d 48) (ltb 57 d) refl refl (λ e f. digits-told s (n * 10 + (d - 48)) (i + 1) (grows n i (d - 48) h (omega arith)) (omega arith))
+  where
+    by-test : (t u : Bool) → ltb d 48 ≡ t → ltb 57 d ≡ u → (48 ≤ d → d ≤ 57 → (numberFrom (n * 10 + (d - 48)) s < dash) ⊎ (numberFrom (n * 10 + (d - 48)) s ≡ unreadable))
+        → (cond t unreadable (cond u unreadable (numberFrom (n * 10 + (d - 48)) s)) < dash) ⊎ (cond t unreadable (cond u unreadable (numberFrom (n * 10 + (d - 48)) s)) ≡ unreadable)
+    by-test true u p q r = inr refl
+    by-test false true p q r = inr refl
+    by-test false false p q r = r (ltb-false d 48 p) (ltb-false 57 d q)
+
+pub decimal-told : (s : List ℕ) → (decimalOf s < dash) ⊎ (decimalOf s ≡ unreadable)
+unfolding decimalOf
+decimal-told s = by-test (eqb (length s) 0) (ltb digitsMost (length s)) (ltb 1 (length s) && eqb (getD s 0 0) 48) refl
+  where
+    by-test : (t u v : Bool) → ltb digitsMost (length s) ≡ u
+        → (cond t unreadable (cond u unreadable (cond v unreadable (numberFrom 0 s))) < dash) ⊎ (cond t unreadable (cond u unreadable (cond v unreadable (numberFrom 0 s))) ≡ unreadable)
+    by-test true u v p = inr refl
+    by-test false true v p = inr refl
+    by-test false false true p = inr refl
+    by-test false false false p = digits-told s 0 0 (omega arith) (omega (arith, ltb-false digitsMost (length s) p))
+
+-- a line of n bytes reads as at most n + 1 numbers
+pub tokens-short : (s : List ℕ) → length (tokensOf s) ≤ 1 + length s
+unfolding tokensOf
+tokens-short s = rw (length-map (fieldsOf s) tokenOf) (fields-short s)

@@ -122,23 +122,15 @@ pub fn tokens(line: &[u8], out: &mut [u64]) -> usize
 
 // ---- hex
 
-// The value of a hex digit in upper case, 16 for any other byte.
+// The value of a hex digit in upper case, 16 for any other byte. It has no branch, since no processor could predict
+// which digit comes.
 fn hex_value(d: u8) -> u8
     ensures { λ r. ⌜ r ≡ hexValue d ⌝ }
 {
-    if d < b'0' {
-        return 16;
-    }
-    if d <= b'9' {
-        return d - b'0';
-    }
-    if d < b'A' {
-        return 16;
-    }
-    if d <= b'F' {
-        return d - b'A' + 10;
-    }
-    16
+    let x = std::num::wrapping_sub_u8(d, b'0');
+    let y = std::num::wrapping_sub_u8(d, b'A');
+    let z = std::num::wrapping_sub_u8(d, b'A' - 10);
+    choice::pick8(x < 10, x, choice::pick8(y < 6, z, 16))
 }
 
 // One byte; past the end nothing is written.

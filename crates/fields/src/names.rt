@@ -1,35 +1,34 @@
-// The names of a trace's lines. A name is packed into one number, and the table of packed names is searched for it:
-// the ticks and the PDUs, which most lines are, stand first.
+// The names of a trace's lines. A name is packed into one number, and the table of packed names is searched for it.
 ghost use mathlib.Core.Path.{_≡_};
 ghost use Prim.Native.Nat.{_+_, _*_};
 ghost use Rattle.fields.specs.Names.{callOf, packed, place as Names·place};
 
 // The number of each name is its place in the table.
-pub const T: usize = 0;
+pub const REQ: usize = 0;
 
-pub const RX: usize = 1;
+pub const REL: usize = 1;
 
-pub const REQ: usize = 2;
+pub const PAS: usize = 2;
 
-pub const REL: usize = 3;
+pub const RMR: usize = 3;
 
-pub const PAS: usize = 4;
+pub const DIS: usize = 4;
 
-pub const RMR: usize = 5;
+pub const ENA: usize = 5;
 
-pub const DIS: usize = 6;
+pub const OK: usize = 6;
 
-pub const ENA: usize = 7;
+pub const BAD: usize = 7;
 
-pub const OK: usize = 8;
+pub const PNA: usize = 8;
 
-pub const BAD: usize = 9;
+pub const RX: usize = 9;
 
-pub const PNA: usize = 10;
+pub const UD: usize = 10;
 
-pub const UD: usize = 11;
+pub const PNR: usize = 11;
 
-pub const PNR: usize = 12;
+pub const T: usize = 12;
 
 pub const CFG: usize = 13;
 
@@ -40,10 +39,6 @@ pub const UNKNOWN: usize = 15;
 
 // Each name as `pack` packs it: a 1 and its bytes.
 const NAMES: [u32; 15] = [
-    // T
-    0x0154,
-    // RX
-    0x015258,
     // REQ
     0x01524551,
     // REL
@@ -62,10 +57,14 @@ const NAMES: [u32; 15] = [
     0x01424144,
     // PNA
     0x01504E41,
+    // RX
+    0x015258,
     // UD
     0x015544,
     // PNR
     0x01504E52,
+    // T
+    0x0154,
     // CFG
     0x01434647,
     // PN

@@ -1,3 +1,4 @@
 pub mod Wrote
 pub mod Numbers
 pub mod Hex
+pub mod Examples

@@ -1,6 +1,6 @@
 -- Laws of numbers in decimal. Assumes nothing.
 use mathlib.Core.Path.{_≡_, refl, sym, ap, _∙_}
-use mathlib.Core.Bool.{Bool, true, false, cond}
+use mathlib.Core.Bool.{Bool, true, false}
 use mathlib.Core.List.{List, [], _∷_, _++_}
 use Prim.Native.Nat.{ℕ, zero, suc, _+_, _-_, _*_, _/_, _%_, _^_, _≤_, _<_}
 use native.Mathlib.Nat.{pow-suc, pow-succ', pow-le-pow-right, div-lt-iff-lt-mul, div-div-eq-div-mul, div-one, div-le-self, le-div-iff-mul-le}
@@ -9,12 +9,12 @@ use native.Mathlib.Omega.{arith}
 use lib.Dec.{ltb}
 use lib.ListN.{length, set, length-append}
 use lib.Seq.{sets}
-use borrow.Author.Tests.{lt-ltb, le-ltb, ltb-true, ltb-false}
+use borrow.Author.Tests.{lt-ltb, le-ltb}
 use Rattle.print.specs.Print.{decimal, digitsMost, numberText}
 use Rattle.print.proofs.Wrote.{sets-last}
 
 -- a number has no more digits than are asked for
-pub length-decimal : (k n : ℕ) → length (decimal k n) ≤ k
+length-decimal : (k n : ℕ) → length (decimal k n) ≤ k
 unfolding decimal
 length-decimal zero n = omega arith
 length-decimal (suc k) n = by-test (ltb n 10) refl (length-decimal k (n / 10))
@@ -22,6 +22,9 @@ length-decimal (suc k) n = by-test (ltb n 10) refl (length-decimal k (n / 10))
     by-test : (t : Bool) → ltb n 10 ≡ t → length (decimal k (n / 10)) ≤ k → length (decimal (suc k) n) ≤ suc k
     by-test true e h = rw e (omega arith)
     by-test false e h = rw e (omega (arith, length-append (decimal k (n / 10)) ((48 + n % 10) ∷ [])))
+
+pub length-number : (n : ℕ) → length (numberText n) ≤ digitsMost
+length-number n = length-decimal digitsMost n
 
 -- a tenth has a digit less
 tenth : (k n : ℕ) → n < 10 ^ suc k → n / 10 < 10 ^ k

@@ -3,8 +3,7 @@
 use mathlib.Core.Path.{_≡_, refl, sym, ap, _∙_}
 use mathlib.Core.Bool.{Bool, true, false, cond}
 use mathlib.Core.List.{List, [], _∷_, _++_, append-assoc, append-nil, map}
-use Prim.Native.Nat.{ℕ, zero, suc, _+_, _≤_, _<_}
-use native.Mathlib.Nat.{add-zero}
+use Prim.Native.Nat.{ℕ, zero, suc, _+_, _≤_}
 use native.Mathlib.Omega.{arith}
 use lib.Dec.{eqb}
 use lib.ListN.{length, take, drop}
@@ -65,7 +64,7 @@ open-head x zero h = (by-byte (eqb x lineFeed) h, refl)
     by-byte false e = refl
 open-head x (suc n) h = absurd (omega arith)
 
-pub open-rest : (s : List ℕ) → Open (drop (wholeLen s) s)
+open-rest : (s : List ℕ) → Open (drop (wholeLen s) s)
 unfolding wholeLen
 open-rest [] = refl
 open-rest (x ∷ xs) = by-whole (wholeLen xs) refl (open-rest xs)
@@ -78,7 +77,7 @@ open-rest (x ∷ xs) = by-whole (wholeLen xs) refl (open-rest xs)
     by-whole zero e h = by-byte (eqb x lineFeed) refl e
     by-whole (suc n) e h = h
 
-pub open-take : (k : ℕ) (p : List ℕ) → Open p → Open (take k p)
+open-take : (k : ℕ) (p : List ℕ) → Open p → Open (take k p)
 unfolding wholeLen
 open-take zero p h = refl
 open-take (suc k) [] h = refl

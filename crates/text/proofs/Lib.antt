@@ -1,3 +1,5 @@
+pub mod Filled
 pub mod Lines
 pub mod Whole
 pub mod Blocks
+pub mod Examples

@@ -1,5 +1,5 @@
 -- Laws of the lines of a text, for every place in it. Assumes nothing.
-use mathlib.Core.Path.{_≡_, refl, sym, ap, _∙_}
+use mathlib.Core.Path.{_≡_, refl, ap}
 use mathlib.Core.Bool.{Bool, true, false, cond}
 use mathlib.Core.List.{List, [], _∷_}
 use Prim.Native.Nat.{ℕ, zero, suc, _+_, _-_, _≤_, _<_}
@@ -11,7 +11,6 @@ use lib.ListN.{length, take, drop, getD, drop-of-length-le, length-drop}
 use lib.Seq.{drop-cons, drop-drop}
 use borrow.Author.Tests.{eq-eqb, ne-eqb, ltb-true, ltb-false}
 use Rattle.text.specs.Lines.{before, linesOf, lineFeed, spanAt, until}
-use Rattle.text.specs.declared.Span.{Span}
 use Rattle.text.specs.declared.Span.the-variants.{Line, End}
 
 -- ---- the first b from a place on

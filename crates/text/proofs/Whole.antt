@@ -1,5 +1,5 @@
 -- Laws of the whole lines of a text, and of moving a part of a buffer to its front. Assumes nothing.
-use mathlib.Core.Path.{_≡_, refl, sym, ap, _∙_}
+use mathlib.Core.Path.{_≡_, refl, sym, _∙_}
 use mathlib.Core.Bool.{Bool, true, false, cond}
 use mathlib.Core.List.{List, [], _∷_, _++_}
 use Prim.Native.Nat.{ℕ, zero, suc, _+_, _-_, _≤_, _<_, min}
@@ -12,7 +12,7 @@ use lib.Seq.{drop-cons, drop-set-lt, sets, take-suc, length-take-le, take-take, 
 use borrow.Author.Tests.{eq-eqb, ne-eqb, leb-true, leb-false}
 use Rattle.text.specs.Lines.{lineFeed}
 use Rattle.text.specs.Filled.{filled}
-use Rattle.text.specs.Blocks.{keeping, lineMost, wholeLen, wholeWith}
+use Rattle.text.specs.Blocks.{keeping, keptOf, lineMost, wholeLen, wholeWith}
 
 -- ---- looking for the last line feed from the end
 
@@ -127,3 +127,10 @@ unfolding keeping
 keeping-by l n {a} {f} {k} {m} p q r s =
     let t : take a l ≡ take n l = rw p (take-min n l) in
     rw (s, r, part-kept l a f (lineMost + 1), count-kept l a f (lineMost + 1) (omega arith), q, t)
+
+-- no more is kept than there is, nor than tells that a line is too long
+pub kept-le : (s : List ℕ) → length (keptOf s) ≤ length s
+kept-le s = rw (length-take, length-drop) (omega arith)
+
+pub kept-short : (s : List ℕ) → length (keptOf s) ≤ lineMost + 1
+kept-short s = rw length-take (omega arith)

@@ -1,8 +1,8 @@
 -- `commands::alone` meets its contract: a name by its number, or one outside the table's calls. Assumes nothing.
-use mathlib.Core.Path.{refl, sym}
+use mathlib.Core.Path.{sym}
 use native.Mathlib.Omega.{arith}
 use lib.ListN.{List·getD-eq-default}
-use Rattle.decision.proofs.Table.{next, run-at}
+use Rattle.decision.proofs.Table.{next}
 use Rattle.commands.specs.declared.Asked.the-variants.{Unreadable}
 use Rattle.commands.specs.Commands.{alone, aloneTable}
 use Rattle.commands.proofs.alone.Statement.{statement}
@@ -22,5 +22,4 @@ alone-spec =
     (λ c. rw (c .match .keys7))
     (λ c. rw (c .match .keys8))
     (λ c. rw (c .match .keys9))
-    (λ c. sym (run-at aloneTable Unreadable Unreadable 0 2 (c .before .before .args .name) refl (omega arith) (c .if1 .taken)))
-    (λ c. sym (List·getD-eq-default aloneTable Unreadable {n = c .before .before .args .name} (next {k = 10} (next {k = 9} (next {k = 8} (next {k = 7} (next {k = 6} (next {k = 5} (next {k = 4} (next {k = 3} (next {k = 2} (c .if1 .left) (c .before .match .rest .0 .0 .0 .0 .0 .0 .0 .0 .1)) (c .before .match .rest .0 .0 .0 .0 .0 .0 .0 .1)) (c .before .match .rest .0 .0 .0 .0 .0 .0 .1)) (c .before .match .rest .0 .0 .0 .0 .0 .1)) (c .before .match .rest .0 .0 .0 .0 .1)) (c .before .match .rest .0 .0 .0 .1)) (c .before .match .rest .0 .0 .1)) (c .before .match .rest .0 .1)) (c .before .match .rest .1)))))
+    (λ c. sym (List·getD-eq-default aloneTable Unreadable {n = c .before .args .name} (next {k = 8} (next {k = 7} (next {k = 6} (next {k = 5} (next {k = 4} (next {k = 3} (next {k = 2} (next {k = 1} (next {k = 0} (omega arith) (c .match .rest .0 .0 .0 .0 .0 .0 .0 .0 .1)) (c .match .rest .0 .0 .0 .0 .0 .0 .0 .1)) (c .match .rest .0 .0 .0 .0 .0 .0 .1)) (c .match .rest .0 .0 .0 .0 .0 .1)) (c .match .rest .0 .0 .0 .0 .1)) (c .match .rest .0 .0 .0 .1)) (c .match .rest .0 .0 .1)) (c .match .rest .0 .1)) (c .match .rest .1)))))

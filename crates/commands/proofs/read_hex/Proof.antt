@@ -4,8 +4,8 @@ use native.Mathlib.Omega.{arith}
 use borrow.Author.Needs.{needs}
 use borrow.Author.Tests.{eq-eqb, ne-eqb}
 use Rattle.text.specs.Filled.{Filled}
+use Rattle.fields.proofs.Hex.{pairs-short}
 use Rattle.commands.specs.Commands.{hexRead}
-use Rattle.commands.proofs.Hex.{pairs-fit}
 use Rattle.commands.proofs.read_hex.Statement.{statement}
 use Rattle.commands.proofs.read_hex.Tie as tie
 
@@ -13,7 +13,7 @@ mul-if1 : tie.Need-mul-if1
 mul-if1 c =
     let h = c .before .before .hex-pairs .ensures in
     let a = c .before .before .before .before .before .before .args in
-    record { fits = omega (arith, ap (λ (f : Filled). f .count) h, pairs-fit (a .a .now)) }
+    record { fits = omega (arith, ap (λ (f : Filled). f .count) h, pairs-short (a .a .now)) }
 
 returns : tie.Need-returns
 unfolding hexRead

@@ -1,12 +1,9 @@
 -- `fields::hex_pairs` meets its contract. The loop's invariant: what is to be stored from the start on is what is left to be
 -- stored from `n` on, of the pairs from `i` on. Assumes nothing.
-use mathlib.Core.Path.{_≡_, refl, sym, ap, _∙_}
-use mathlib.Core.List.{List, []}
-use Prim.Native.Nat.{ℕ, _-_, _+_, _*_, _≤_}
-use native.Mathlib.Numerals.{add-one}
+use mathlib.Core.Path.{_≡_, refl}
+use Prim.Native.Nat.{_-_, _*_, _≤_}
 use native.Mathlib.Omega.{arith}
 use lib.ListN.{length, drop, length-set}
-use lib.Seq.{sets}
 use Rattle.fields.specs.Hex.{hexPairs}
 use Rattle.fields.proofs.Filling.{Filling, filling-start, filling-one, filling-end}
 use Rattle.fields.proofs.Hex.{pairs-end, pairs-high, pairs-low, pairs-more}

@@ -1,23 +1,20 @@
 -- `fields::hex_value` meets its contract. Assumes nothing.
+use mathlib.Core.Path.{ap, _∙_}
+use mathlib.Core.Bool.{cond}
+use Prim.Native.Nat.{ℕ}
+use lib.Dec.{ltb}
+use native.Mathlib.Omega.{arith}
 use borrow.Author.Needs.{needs}
-use Rattle.fields.proofs.Hex.{value-below, value-decimal, value-between, value-letter, value-above}
+use Rattle.fields.proofs.Hex.{value-by}
 use Rattle.fields.proofs.hex_value.Statement.{statement}
 use Rattle.fields.proofs.hex_value.Tie as tie
 
 returns : tie.Need-returns
-returns c = value-below _ (c .if1 .taken)
-
-returns-2 : tie.Need-returns-2
-returns-2 c = value-decimal _ (c .before .if1 .left) (c .if2 .taken)
-
-returns-3 : tie.Need-returns-3
-returns-3 c = value-between _ (c .before .if2 .left) (c .if3 .taken)
-
-returns-4 : tie.Need-returns-4
-returns-4 c = value-letter _ (c .before .if3 .left) (c .if4 .taken)
-
-returns-5 : tie.Need-returns-5
-returns-5 c = value-above _ (c .if4 .left)
+returns c =
+    let w = c .before .before in
+    let x = w .before .before in
+    c .pick82 .ensures ∙ ap (λ (k : ℕ). cond (ltb (x .wrapping-sub-u8 .result) 10) (x .wrapping-sub-u8 .result) k) (c .before .pick8 .ensures)
+    ∙ value-by (x .before .args .d) _ _ _ (omega arith) (omega arith) (omega arith) (omega arith) (x .wrapping-sub-u8 .ensures) (w .before .wrapping-sub-u82 .ensures) (w .wrapping-sub-u83 .ensures)
 
 pub hex-value-spec : {M : Type 1} → statement M
-hex-value-spec = tie.close (tie.spec returns returns-2 returns-3 (λ c. search needs) returns-4 returns-5)
+hex-value-spec = tie.close (tie.spec (λ c κs. tt) (λ c κs. tt) (λ c. search needs) (λ c κs. tt) (λ c κs. tt) (λ c κs. tt) returns)

@@ -5,8 +5,8 @@ use Prim.Native.Nat.{_+_, _≤_}
 use native.Mathlib.Omega.{arith}
 use lib.ListN.{length, length-set}
 use lib.Seq.{sets}
-use Rattle.print.specs.Print.{digitsMost, numberText}
-use Rattle.print.proofs.Numbers.{length-decimal, length-long, one-less, last-digit, only-digit}
+use Rattle.print.specs.Print.{numberText}
+use Rattle.print.proofs.Numbers.{length-number, length-long, one-less, last-digit, only-digit}
 use Rattle.print.proofs.put_number.Statement.{statement}
 use Rattle.print.proofs.put_number.Tie as tie
 
@@ -38,11 +38,11 @@ put-number-spec =
     Inv-loop
     μ-loop
     (λ c κs. tt)
-    (λ c. omega (arith, length-decimal digitsMost (c .before .before .args .n)))
+    (λ c. omega (arith, length-number (c .before .before .args .n)))
     (λ c. (refl, omega arith, refl, omega arith))
     (λ c. omega (arith, length-long (c .before .loop .m) (omega arith) (c .loop-test .taken)))
     (λ c κs. omega arith)
-    (λ c. omega (arith, length-decimal digitsMost (c .before .before .loop .m)))
+    (λ c. omega (arith, length-number (c .before .before .loop .m)))
     (λ c. omega arith)
     loop-again
     (λ c κs. omega arith)

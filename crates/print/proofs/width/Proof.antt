@@ -1,6 +1,6 @@
 -- `print::width` meets its contract. The loop's invariant: `w` digits, and those of what is left behind them. Assumes nothing.
 use mathlib.Core.Path.{_≡_, refl, sym, ap, _∙_}
-use Prim.Native.Nat.{ℕ, _-_, _+_, _/_, _^_, _≤_, _<_}
+use Prim.Native.Nat.{ℕ, _-_, _+_, _/_, _^_, _≤_}
 use native.Mathlib.Omega.{arith}
 use lib.ListN.{length}
 use Rattle.print.specs.Print.{numberText}
