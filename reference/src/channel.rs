@@ -5,7 +5,7 @@
 //! 1, 4, 6, 3, 5; a refused call changes neither the channel nor a lent byte.
 
 use crate::answer::{BROKEN_RULE, DONE, NOT_SOUND, PASSIVE, PN_OFF, WRONG_LENGTH, WRONG_STATE};
-use crate::config::{checked_times, passes_with, Config, Position, Times, MAX_BYTES};
+use crate::config::{checked_times, passes_with, Config, Times, MAX_BYTES};
 use crate::pdu::{read_fields, write_fields, Fields, ACTIVE_WAKEUP_BIT, PNI_BIT, REPEAT_BIT};
 use crate::pnc::{BitIndex, PncNumber};
 
@@ -280,29 +280,7 @@ impl Channel {
     /// What stands beside a refused configuration: every number 0, every flag
     /// false, and header fields at the position of number 0. Not sound.
     pub const ZERO: Channel = Channel {
-        config: Config {
-            period: 0,
-            timeout: 0,
-            wait: 0,
-            repeat: 0,
-            cycle: 0,
-            offset: 0,
-            fast_count: 0,
-            fast_cycle: 0,
-            remote: 0,
-            passive: false,
-            length: 0,
-            sni: Position::Byte0,
-            cbv: Position::Byte0,
-            node_id: 0,
-            pn_on: false,
-            pn_start: 0,
-            pn_len: 0,
-            pn_reset: 0,
-            all_keep_awake: false,
-            mask: [0; MAX_BYTES],
-            mask_len: 0,
-        },
+        config: Config::ZERO,
         times: Times {
             timeout: 0,
             wait: 0,

@@ -102,6 +102,46 @@ pub struct Config {
 }
 
 impl Config {
+    /// Every number 0, every flag false, and header fields at the position of
+    /// number 0. It breaks rule 1.
+    pub const ZERO: Config = Config {
+        period: 0,
+        timeout: 0,
+        wait: 0,
+        repeat: 0,
+        cycle: 0,
+        offset: 0,
+        fast_count: 0,
+        fast_cycle: 0,
+        remote: 0,
+        passive: false,
+        length: 0,
+        sni: Position::Byte0,
+        cbv: Position::Byte0,
+        node_id: 0,
+        pn_on: false,
+        pn_start: 0,
+        pn_len: 0,
+        pn_reset: 0,
+        all_keep_awake: false,
+        mask: [0; MAX_BYTES],
+        mask_len: 0,
+    };
+
+    /// The configuration of the paper's trace, where every time is a whole
+    /// number of ticks: T 5, W 3, R 4, C 2.
+    pub const EXAMPLE: Config = Config {
+        period: 10,
+        timeout: 50,
+        wait: 30,
+        repeat: 40,
+        cycle: 20,
+        length: 8,
+        cbv: Position::Byte1,
+        node_id: 33,
+        ..Config::ZERO
+    };
+
     /// H, the number of header fields that are on (0 to 2).
     pub fn header_len(&self) -> usize {
         header_len(self.sni, self.cbv)
@@ -302,31 +342,7 @@ pub(crate) mod tests {
     use super::*;
     use crate::rng::Rng;
 
-    /// The configuration of the paper's trace, where every time is a whole
-    /// number of ticks: T 5, W 3, R 4, C 2.
-    pub(crate) const PLAIN: Config = Config {
-        period: 10,
-        timeout: 50,
-        wait: 30,
-        repeat: 40,
-        cycle: 20,
-        offset: 0,
-        fast_count: 0,
-        fast_cycle: 0,
-        remote: 0,
-        passive: false,
-        length: 8,
-        sni: Position::Byte0,
-        cbv: Position::Byte1,
-        node_id: 33,
-        pn_on: false,
-        pn_start: 0,
-        pn_len: 0,
-        pn_reset: 0,
-        all_keep_awake: false,
-        mask: [0; MAX_BYTES],
-        mask_len: 0,
-    };
+    pub(crate) const PLAIN: Config = Config::EXAMPLE;
 
     /// The layout of the paper's filter case: six bytes, PN in the last two.
     pub(crate) const PN: Config = Config {

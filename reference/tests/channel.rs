@@ -27,30 +27,8 @@ const BUSY: Call = MainFunction {
     frame_len: 8,
 };
 
-/// The configuration of the paper's example; in ticks T 5, W 3, R 4, C 2.
-const PLAIN: Config = Config {
-    period: 10,
-    timeout: 50,
-    wait: 30,
-    repeat: 40,
-    cycle: 20,
-    offset: 0,
-    fast_count: 0,
-    fast_cycle: 0,
-    remote: 0,
-    passive: false,
-    length: 8,
-    sni: Position::Byte0,
-    cbv: Position::Byte1,
-    node_id: 33,
-    pn_on: false,
-    pn_start: 0,
-    pn_len: 0,
-    pn_reset: 0,
-    all_keep_awake: false,
-    mask: [0; 8],
-    mask_len: 0,
-};
+/// The configuration of the paper's example.
+const PLAIN: Config = Config::EXAMPLE;
 
 /// The layout of the paper's filter case, with P 3 ticks.
 const PN: Config = Config {

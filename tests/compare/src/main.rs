@@ -8,6 +8,7 @@ mod seen;
 
 use cannm_compare::inputs::{self, Handed};
 use cannm_compare::product::{self, Composed, Filter, Header, Place, Ticks};
+use cannm_compare::seed_word;
 use cannm_reference::answer::{Answer, Refusal};
 use cannm_reference::config::{first_broken_rule, Config, Position};
 use cannm_reference::pdu::{self, Fields};
@@ -18,8 +19,6 @@ use seen::{Kind, Seen};
 use std::fmt::Debug;
 use std::process::ExitCode;
 
-const DEFAULT_SEED: u64 = 20_240_229;
-
 /// The longest byte string that is lent.
 const MOST: usize = 12;
 /// A lent buffer with bytes before and behind it that no one may touch.
@@ -28,14 +27,8 @@ const ROOM: usize = MOST + 16;
 const START: usize = 8;
 
 fn main() -> ExitCode {
-    let mut words = std::env::args().skip(1);
-    let seed = match words.next().map(|word| word.parse()) {
-        None => DEFAULT_SEED,
-        Some(Ok(seed)) => seed,
-        Some(Err(_)) => {
-            eprintln!("usage: cannm_compare [SEED]");
-            return ExitCode::from(2);
-        }
+    let Ok(seed) = seed_word("cannm_compare") else {
+        return ExitCode::from(2);
     };
     println!("cannm_compare: seed {seed}");
 

@@ -267,21 +267,9 @@ pub struct Counts {
 /// How often each way to break a condition has to be met.
 pub const LEAST_BROKEN: u64 = 300;
 
-const NOTES: [Note; 9] = [
-    Note::NM,
-    Note::ST,
-    Note::PB,
-    Note::BS,
-    Note::TO,
-    Note::RC,
-    Note::RI,
-    Note::EI,
-    Note::ER,
-];
-
 /// The place of a note: 1 to 7 as the product numbers them, 8 for EI and 9 for ER.
 pub fn note_number(note: Note) -> u8 {
-    1 + NOTES.iter().position(|other| *other == note).unwrap() as u8
+    1 + Note::ALL.iter().position(|other| *other == note).unwrap() as u8
 }
 
 /// Whether the table never gives 0 for this call in this state.
@@ -301,7 +289,7 @@ impl Counts {
             settings: Tally::of::<Setting>(),
             answers: Tally::new("answers", (0..7).map(|number| number.to_string())),
             grid: [[0; CALLS]; STATES],
-            notes: Tally::new("notes", NOTES.map(|note| note.letters())),
+            notes: Tally::new("notes", Note::ALL.map(|note| note.letters())),
             steps: Tally::of::<Step>(),
             acts: Tally::of::<Act>(),
             rows: Tally::of::<Row>(),

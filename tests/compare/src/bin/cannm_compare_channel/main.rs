@@ -15,6 +15,7 @@ use broken::{Way, WAYS};
 use calls::{Input, Room, Walk, CALLS, PAS, RX, STA};
 use cannm_compare::inputs::{self, Handed};
 use cannm_compare::product::{self, Begun, Called, Shown, Words};
+use cannm_compare::seed_word;
 use cannm_reference::answer::{BROKEN_RULE, NOT_SOUND};
 use cannm_reference::book::{Book, Call};
 use cannm_reference::channel::{initialise, Channel, Notes, Reply, State, MAX_NOTES};
@@ -24,8 +25,6 @@ use cannm_reference::rng::Rng;
 use counts::{note_number, Cases, Counts, Found, Tally};
 use state::{held, name_of, ticks_of, told, words_of, Condition, CONDITIONS, STATE};
 use std::process::ExitCode;
-
-const DEFAULT_SEED: u64 = 20_240_229;
 
 /// Lists of calls, each on a configuration of its own, and the calls of each.
 const LISTS: u64 = 800;
@@ -37,14 +36,8 @@ const MADE_OF_A_LIST: u64 = 150;
 const REFUSED: u64 = 20_000;
 
 fn main() -> ExitCode {
-    let mut words = std::env::args().skip(1);
-    let seed = match words.next().map(|word| word.parse()) {
-        None => DEFAULT_SEED,
-        Some(Ok(seed)) => seed,
-        Some(Err(_)) => {
-            eprintln!("usage: cannm_compare_channel [SEED]");
-            return ExitCode::from(2);
-        }
+    let Ok(seed) = seed_word("cannm_compare_channel") else {
+        return ExitCode::from(2);
     };
     println!("cannm_compare_channel: seed {seed}");
 
@@ -119,18 +112,6 @@ fn on_reference(channel: &mut Channel, input: &Input) -> (Outcome, Notes) {
         notes,
         frame,
     } = match input.call() {
-        Call::NetworkRequest => channel.network_request(),
-        Call::NetworkRelease => channel.network_release(),
-        Call::PassiveStartUp => channel.passive_start_up(),
-        Call::RepeatMessageRequest => channel.repeat_message_request(),
-        Call::DisableCommunication => channel.disable_communication(),
-        Call::EnableCommunication => channel.enable_communication(),
-        Call::TxConfirmation(good) => channel.tx_confirmation(good),
-        Call::RxIndication(pdu) => channel.rx_indication(pdu),
-        Call::ConfirmPnAvailability => channel.confirm_pn_availability(),
-        Call::SetUserData(bytes) => channel.set_user_data(bytes),
-        Call::SetPnRequests(bytes) => channel.set_pn_requests(bytes),
-        Call::MainFunction { taken, .. } => channel.main_function(taken, input.lent(&mut room)),
         Call::Status => {
             let status = channel.status();
             let PncNumber(lowest) = status.lowest;
@@ -139,6 +120,7 @@ fn on_reference(channel: &mut Channel, input: &Input) -> (Outcome, Notes) {
             outcome.status = (state, status.era, status.eira, count, lowest);
             return (outcome, Notes::NONE);
         }
+        call => call.perform(channel, input.lent(&mut room)),
     };
     let mut outcome = Outcome::new(answer.into(), 0, room);
     for (to, note) in outcome.notes.iter_mut().zip(notes.as_slice()) {
