@@ -1,1 +1,3 @@
 mod Unframed
+mod Steps
+mod Room
