@@ -1,0 +1,3 @@
+mod Unframed
+mod Steps
+mod Room

@@ -1,0 +1,170 @@
+-- How much room the text of a line takes. Assumes nothing.
+use mathlib.Core.Path.{_≡_, refl, sym, ap, _∙_}
+use mathlib.Core.Bool.{Bool, true, false, cond}
+use mathlib.Core.List.{List, [], _∷_, _++_}
+use Prim.Native.Nat.{ℕ, _+_, _*_, _≤_, min}
+use native.Mathlib.Omega.{arith}
+use lib.Dec.{eqb}
+use lib.ListN.{length, replicate, set, take, length-append, length-set, length-take}
+use lib.Seq.{length-sets}
+use Rattle.answers.specs.Answers.{numberOf}
+use Rattle.channel.specs.declared.state.Channel.{Channel}
+use Rattle.channel.specs.Channel.{Ticked, frameAfter, replied, trafficMoved}
+use Rattle.commands.specs.declared.Command.{Command}
+use Rattle.commands.specs.declared.Asked.{Asked}
+use Rattle.commands.specs.declared.Asked.the-variants.{Unreadable, Call}
+use Rattle.config.specs.declared.Config.{Config}
+use Rattle.config.specs.Ranges.{off}
+use Rattle.decision.specs.Decision as calls
+use Rattle.decision.specs.declared.state.Traffic.{Traffic}
+use Rattle.frames.specs.Frames.{framed}
+use Rattle.pdu.specs.Fields.{Fields}
+use Rattle.pdu.specs.Pdu.{frameOf, putByte}
+use Rattle.print.specs.Print.{decimal}
+use Rattle.report.specs.Report.{changeWord, dashed, frameText, headText, letterOf, lineMost, lineText, notesText, piece, wordOf}
+use Rattle.report.proofs.Line.{length-line}
+use Rattle.settings.specs.declared.Setting.{Setting}
+use Rattle.settings.specs.Settings.{isPartial, readConfig, readPartial}
+use Rattle.trace.specs.Calls.{callOf, carriedOutBy}
+use Rattle.trace.specs.declared.Phase.{Phase}
+use Rattle.trace.specs.declared.Phase.the-variants.{First, Second, Running, Ended}
+use Rattle.trace.specs.declared.Run.{Run}
+use Rattle.trace.specs.Trace.{
+  bareText,
+  begun,
+  behind,
+  broken,
+  called,
+  counted,
+  digitOf,
+  doing,
+  firstLine,
+  following,
+  frameMost,
+  holding,
+  isRunning,
+  laterLine,
+  lineIn,
+  outcome,
+  partialLine,
+  passed,
+  quiet,
+  readingOf,
+  repliedWith,
+  replyText,
+  room,
+  secondLine,
+  sentBytes,
+  textOf,
+  unread,
+}
+
+-- ---- the frame
+
+-- a frame that is sent has the length of the lent one
+put-length : (b : Bool) (position v : ℕ) (frame : List ℕ) → length (cond b frame (set frame position v)) ≡ length frame
+put-length true position v frame = refl
+put-length false position v frame = length-set frame position v
+
+frame-length : (c : Config) (f : Fields) (frame : List ℕ) → length (frameOf c f frame) ≡ length frame
+unfolding frameOf
+frame-length c f frame =
+    simp (length-sets, put-length)
+
+after-length : (ch : Channel) (x : calls.Call) (frame : List ℕ) → length (frameAfter ch x frame) ≡ length frame
+unfolding frameAfter framed
+after-length ch x frame = by-sent (replied ch x .sent)
+  where
+    by-sent : (t : Bool)
+        → length (cond t (framed (ch .own .config) (trafficMoved (ch .own) x) (ch .own .requests) (ch .own .user) frame) frame) ≡ length frame
+    by-sent true = frame-length _ _ frame
+    by-sent false = refl
+
+pub sent-le : (sent : Bool) (n : ℕ) (frame : List ℕ) → length (sentBytes sent n frame) ≤ length frame
+unfolding sentBytes
+sent-le sent n frame = rw length-take (omega arith)
+
+-- ---- lines
+
+bare-le : (n answer state : ℕ) → length (bareText n answer state) ≤ lineMost
+unfolding bareText
+bare-le n answer state = omega (arith, length-line n answer state quiet [])
+
+-- line 1
+pub begun-length : (c : Config) (n : ℕ) → length (begun c n .text) ≡ 10
+unfolding begun bareText lineText headText decimal notesText wordOf changeWord piece dashed frameText
+begun-length c n = refl
+
+reply-le : (run : Run) (k : Command) (bytes : List ℕ) → length (called run k bytes .text) ≤ lineMost + 2 * frameMost
+unfolding called repliedWith replyText carriedOutBy
+reply-le run k bytes =
+    let x = callOf k bytes frameMost in
+    let r = replied (run .channel) x in
+    let f = frameAfter (run .channel) x (replicate frameMost 0) in
+    let b = sentBytes (r .sent) (r .channel .own .config .layout .length) f in
+    omega (arith, length-line (run .next) (digitOf (numberOf (r .answer))) (letterOf (r .channel .own .mode .state)) (r .notes) b, sent-le (r .sent) (r .channel .own .config .layout .length) f, after-length (run .channel) x (replicate frameMost 0))
+
+unread-le : (run : Run) → length (unread run .text) ≤ lineMost
+unfolding unread
+unread-le run = bare-le _ _ _
+
+broken-le : (run : Run) → length (broken run .text) ≤ lineMost
+unfolding broken
+broken-le run = bare-le _ _ _
+
+later-le : (run : Run) (l : List ℕ) → length (laterLine run l .text) ≤ lineMost + 2 * frameMost
+unfolding laterLine
+later-le run l = by-asked (readingOf l .asked) (readingOf l .bytes)
+  where
+    by-asked : (a : Asked) (bytes : List ℕ) → length (doing run a bytes .text) ≤ lineMost + 2 * frameMost
+    by-asked Unreadable bytes = omega (arith, unread-le run)
+    by-asked (Call k) bytes = reply-le run k bytes
+
+first-le : (run : Run) (l : List ℕ) → length (firstLine run l .text) ≤ room
+unfolding firstLine
+first-le run l = by-read (readConfig l .readable)
+  where
+    by-read : (t : Bool) → length (cond t (outcome (holding Second (counted (run .next)) (readConfig l .config)) []) (broken run) .text) ≤ room
+    by-read true = omega arith
+    by-read false = omega (arith, broken-le run)
+
+partial-le : (run : Run) (l : List ℕ) → length (partialLine run l .text) ≤ room
+unfolding partialLine
+partial-le run l = by-read (readPartial (run .channel .own .config) l)
+  where
+    by-read : (s : Setting) → length (cond (s .readable) (begun (s .config) (counted (run .next))) (broken run) .text) ≤ room
+    by-read s = by-flag (s .readable)
+      where
+        by-flag : (t : Bool) → length (cond t (begun (s .config) (counted (run .next))) (broken run) .text) ≤ room
+        by-flag true = omega (arith, begun-length (s .config) (counted (run .next)))
+        by-flag false = omega (arith, broken-le run)
+
+following-le : (run : Run) (l : List ℕ) → length (following run l .text) ≤ lineMost + 2 * frameMost
+unfolding following
+following-le run l = by-phase (isRunning (run .phase))
+  where
+    by-phase : (t : Bool) → length (cond t (laterLine run l) (outcome (passed run (run .phase)) []) .text) ≤ lineMost + 2 * frameMost
+    by-phase true = later-le run l
+    by-phase false = omega arith
+
+second-le : (run : Run) (l : List ℕ) → length (secondLine run l .text) ≤ room
+unfolding secondLine
+second-le run l = by-name (isPartial l)
+  where
+    by-name : (t : Bool)
+        → length (cond t (partialLine run l) (behind (begun (run .channel .own .config) (run .next)) (following (begun (run .channel .own .config) (run .next) .run) l)) .text) ≤ room
+    by-name true = partial-le run l
+    by-name false =
+        let b = begun (run .channel .own .config) (run .next) in
+        rw (length-append (b .text) (following (b .run) l .text)) (omega (arith, begun-length (run .channel .own .config) (run .next), following-le (b .run) l))
+
+-- what a line prints has room
+pub line-le : (run : Run) (l : List ℕ) → length (textOf run l) ≤ room
+unfolding lineIn
+line-le run l = by-phase (run .phase)
+  where
+    by-phase : (p : Phase) → length (lineIn p run l .text) ≤ room
+    by-phase First = first-le run l
+    by-phase Second = second-le run l
+    by-phase Running = omega (arith, later-le run l)
+    by-phase Ended = omega arith

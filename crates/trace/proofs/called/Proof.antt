@@ -1,0 +1,41 @@
+-- `trace::called` meets its contract. Assumes nothing.
+use mathlib.Core.Path.{ap}
+use lib.ListN.{length}
+use native.Mathlib.Omega.{arith}
+use borrow.Author.Needs.{needs}
+use Rattle.trace.specs.Trace.{called, repliedWith, replyText}
+use Rattle.trace.proofs.Room.{sent-le}
+use Rattle.trace.proofs.called.Statement.{statement}
+use Rattle.trace.proofs.called.Tie as tie
+
+returns : tie.Need-returns
+unfolding called repliedWith replyText
+returns c =
+    let p = c .before .before .before .before in
+    let s = p .before .before .before .before .before in
+    let t = s .before .before .before .before .carry-out .ensures in
+    rw (← t) (record {
+      run = rw (c .counted .ensures);
+      text = rw (p .before .letter .ensures, p .before .before .digit .ensures, s .sent-bytes .ensures) at (p .put-line .ensures);
+    })
+
+put-line-requires : tie.Need-put-line-requires
+put-line-requires c κs =
+    let s = c .before .before .before .before in
+    let r = s .before .before .before .before .carry-out in
+    omega (arith, ap length (s .sent-bytes .ensures), sent-le (r .result .sent) (r .result .channel .own .config .layout .length) (r .last .1 .1 .1 .0))
+
+pub called-spec : {M : Type 1} → statement M
+called-spec =
+    tie.close
+    (tie.spec
+    (λ c. search needs)
+    (λ c κs. tt)
+    (λ c. search needs)
+    (λ c κs. tt)
+    (λ c κs. tt)
+    (λ c κs. tt)
+    put-line-requires
+    (λ c κs. tt)
+    (λ c. search needs)
+    returns)

@@ -1,0 +1,16 @@
+-- `trace::digit` meets its contract. Assumes nothing.
+use native.Mathlib.Omega.{arith}
+use Prim.Native.Nat.{_+_}
+use mathlib.Core.Path.{ap}
+use Rattle.trace.proofs.Steps.{number-le}
+use Rattle.trace.proofs.digit.Statement.{statement}
+use Rattle.trace.proofs.digit.Tie as tie
+
+add-result : tie.Need-add-result
+add-result c = omega (arith, number-le (c .before .args .a), c .number .ensures)
+
+returns : tie.Need-returns
+returns c = rw (c .number .ensures)
+
+pub digit-spec : {M : Type 1} → statement M
+digit-spec = tie.close (tie.spec (λ c κs. tt) add-result returns)
