@@ -5,16 +5,16 @@ use Prim.Native.Nat.{ℕ, _+_, _*_, _≤_}
 use native.Mathlib.Omega.{arith}
 use lib.Dec.{eqb}
 use lib.ListN.{length, length-append}
-use Rattle.print.specs.Print.{digitsMost, hexText}
+use Rattle.print.specs.Print.{hexText}
 use Rattle.print.proofs.Hex.{length-hex}
-use Rattle.print.proofs.Numbers.{length-decimal}
+use Rattle.print.proofs.Numbers.{length-number}
 use Rattle.channel.specs.declared.state.Notes.{Notes}
 use Rattle.report.specs.Report.{dash, frameText, headMost, headText, lineMost, lineText}
 use Rattle.report.proofs.Notes.{length-notes}
 
 pub length-head : (n answer state : ℕ) → length (headText n answer state) ≤ headMost
 unfolding headText
-length-head n answer state = simp length-append (omega (arith, length-decimal digitsMost n))
+length-head n answer state = simp length-append (omega (arith, length-number n))
 
 pub length-frame : (frame : List ℕ) → length (frameText frame) ≤ 1 + 2 * length frame
 unfolding frameText

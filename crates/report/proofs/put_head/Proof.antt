@@ -3,7 +3,7 @@ use Prim.Native.Nat.{_+_, _≤_}
 use native.Mathlib.Omega.{arith}
 use borrow.Author.Needs.{needs}
 use Rattle.print.specs.Print.{digitsMost}
-use Rattle.print.proofs.Numbers.{length-decimal}
+use Rattle.print.proofs.Numbers.{length-number}
 use Rattle.print.proofs.Wrote.{then}
 use Rattle.report.specs.Report.{headText}
 use Rattle.report.proofs.put_head.Statement.{statement}
@@ -20,7 +20,7 @@ returns c =
 
 -- where the number ends at most
 number-done : (c : tie.After-put-number) → c .put-number .result ≤ c .before .before .before .args .at + digitsMost
-number-done c = omega (arith, length-decimal digitsMost (c .before .before .before .args .n))
+number-done c = omega (arith, length-number (c .before .before .before .args .n))
 
 pub put-head-spec : {M : Type 1} → statement M
 put-head-spec =
