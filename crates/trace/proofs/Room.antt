@@ -25,6 +25,7 @@ use Rattle.report.specs.Report.{changeWord, dashed, frameText, headText, letter
 use Rattle.report.proofs.Line.{length-line}
 use Rattle.settings.specs.declared.Setting.{Setting}
 use Rattle.settings.specs.Settings.{isPartial, readConfig, readPartial}
+use Rattle.text.specs.Blocks.{wholeLen, wholeLines}
 use Rattle.text.specs.Lines.{before, lineFeed, linesOf}
 use Rattle.text.specs.Runs.{outs}
 use Rattle.trace.specs.Calls.{callOf, carriedOutBy}
@@ -40,6 +41,8 @@ use Rattle.trace.specs.Trace.{
   counted,
   digitOf,
   doing,
+  ending,
+  endingIn,
   firstLine,
   following,
   frameMost,
@@ -51,6 +54,7 @@ use Rattle.trace.specs.Trace.{
   outcome,
   partialLine,
   passed,
+  printedFrom,
   quiet,
   readingOf,
   repliedWith,
@@ -196,3 +200,23 @@ outs-le run (l ∷ ls) =
 pub lines-le : (run : Run) (s : List ℕ) → length (linesFrom run (linesOf s) .text) ≤ room * length s
 unfolding linesFrom
 lines-le run s = omega (arith, outs-le run (linesOf s), count-le s)
+
+pub whole-lines-le : (run : Run) (s : List ℕ) → length (linesFrom run (wholeLines s) .text) ≤ room * length s
+whole-lines-le run s = omega (arith, lines-le run (take (wholeLen s) s), length-take (wholeLen s) s)
+
+ending-le : (run : Run) → length (ending run) ≤ room
+unfolding ending
+ending-le run = by-phase (run .phase)
+  where
+    by-phase : (p : Phase) → length (endingIn p run) ≤ room
+    by-phase First = omega arith
+    by-phase Second = omega (arith, begun-length (run .channel .own .config) (run .next))
+    by-phase Running = omega arith
+    by-phase Ended = omega arith
+
+-- and so has what a text prints up to the end of the input
+pub printed-le : (run : Run) (s : List ℕ) → length (printedFrom run s) ≤ room * (length s + 1)
+unfolding printedFrom
+printed-le run s =
+    let o = linesFrom run (linesOf s) in
+    rw (length-append (o .text) (ending (o .run))) (omega (arith, lines-le run s, ending-le (o .run)))
