@@ -1,3 +1,3 @@
 mod Unframed
 mod Steps
-mod Room
+pub mod Room

@@ -2,7 +2,7 @@
 use mathlib.Core.Path.{_≡_, refl, sym, ap, _∙_}
 use mathlib.Core.Bool.{Bool, true, false, cond}
 use mathlib.Core.List.{List, [], _∷_, _++_}
-use Prim.Native.Nat.{ℕ, _+_, _*_, _≤_, min}
+use Prim.Native.Nat.{ℕ, suc, _+_, _*_, _≤_}
 use native.Mathlib.Omega.{arith}
 use lib.Dec.{eqb}
 use lib.ListN.{length, replicate, set, take, length-append, length-set, length-take}
@@ -25,6 +25,9 @@ use Rattle.report.specs.Report.{changeWord, dashed, frameText, headText, letter
 use Rattle.report.proofs.Line.{length-line}
 use Rattle.settings.specs.declared.Setting.{Setting}
 use Rattle.settings.specs.Settings.{isPartial, readConfig, readPartial}
+use Rattle.text.specs.Blocks.{wholeLen, wholeLines}
+use Rattle.text.specs.Lines.{before, lineFeed, linesOf}
+use Rattle.text.specs.Runs.{outs}
 use Rattle.trace.specs.Calls.{callOf, carriedOutBy}
 use Rattle.trace.specs.declared.Phase.{Phase}
 use Rattle.trace.specs.declared.Phase.the-variants.{First, Second, Running, Ended}
@@ -38,6 +41,8 @@ use Rattle.trace.specs.Trace.{
   counted,
   digitOf,
   doing,
+  ending,
+  endingIn,
   firstLine,
   following,
   frameMost,
@@ -45,9 +50,11 @@ use Rattle.trace.specs.Trace.{
   isRunning,
   laterLine,
   lineIn,
+  linesFrom,
   outcome,
   partialLine,
   passed,
+  printedFrom,
   quiet,
   readingOf,
   repliedWith,
@@ -55,6 +62,7 @@ use Rattle.trace.specs.Trace.{
   room,
   secondLine,
   sentBytes,
+  stepOf,
   textOf,
   unread,
 }
@@ -168,3 +176,47 @@ line-le run l = by-phase (run .phase)
     by-phase Second = second-le run l
     by-phase Running = omega (arith, later-le run l)
     by-phase Ended = omega arith
+
+-- ---- texts
+
+-- a text has at most as many lines as bytes
+count-le : (s : List ℕ) → length (linesOf s) ≤ length s
+unfolding linesOf
+count-le [] = omega arith
+count-le (x ∷ xs) = by-byte (eqb x lineFeed) (linesOf xs) (count-le xs)
+  where
+    by-byte : (t : Bool) (ls : List (List ℕ)) → length ls ≤ length xs → length (cond t ([] ∷ ls) (before x ls)) ≤ suc (length xs)
+    by-byte true ls h = omega arith
+    by-byte false [] h = omega arith
+    by-byte false (l ∷ ls) h = omega arith
+
+outs-le : (run : Run) (ls : List (List ℕ)) → length (outs stepOf textOf run ls) ≤ room * length ls
+unfolding outs
+outs-le run [] = omega arith
+outs-le run (l ∷ ls) =
+    rw (length-append (textOf run l) (outs stepOf textOf (stepOf run l) ls)) (omega (arith, line-le run l, outs-le (stepOf run l) ls))
+
+-- what the lines of a text print has room
+pub lines-le : (run : Run) (s : List ℕ) → length (linesFrom run (linesOf s) .text) ≤ room * length s
+unfolding linesFrom
+lines-le run s = omega (arith, outs-le run (linesOf s), count-le s)
+
+pub whole-lines-le : (run : Run) (s : List ℕ) → length (linesFrom run (wholeLines s) .text) ≤ room * length s
+whole-lines-le run s = omega (arith, lines-le run (take (wholeLen s) s), length-take (wholeLen s) s)
+
+ending-le : (run : Run) → length (ending run) ≤ room
+unfolding ending
+ending-le run = by-phase (run .phase)
+  where
+    by-phase : (p : Phase) → length (endingIn p run) ≤ room
+    by-phase First = omega arith
+    by-phase Second = omega (arith, begun-length (run .channel .own .config) (run .next))
+    by-phase Running = omega arith
+    by-phase Ended = omega arith
+
+-- and so has what a text prints up to the end of the input
+pub printed-le : (run : Run) (s : List ℕ) → length (printedFrom run s) ≤ room * (length s + 1)
+unfolding printedFrom
+printed-le run s =
+    let o = linesFrom run (linesOf s) in
+    rw (length-append (o .text) (ending (o .run))) (omega (arith, lines-le run s, ending-le (o .run)))

@@ -221,6 +221,10 @@ endingIn Ended run = []
 unfoldable pub ending : Run → List ℕ
 ending run = endingIn (run .phase) run
 
--- what a text prints
-unfoldable pub printed : List ℕ → List ℕ
-printed s = linesFrom start (linesOf s) .text ++ ending (linesFrom start (linesOf s) .run)
+-- what a text prints from a run on, up to the end of the input
+unfoldable pub printedFrom : Run → List ℕ → List ℕ
+printedFrom run s = linesFrom run (linesOf s) .text ++ ending (linesFrom run (linesOf s) .run)
+
+-- what a trace prints
+abbrev pub printed : List ℕ → List ℕ
+printed s = printedFrom start s

@@ -20,6 +20,7 @@ ghost use Rattle.answers.specs.Answers.{numberOf};
 ghost use Rattle.channel.specs.Channel.{ticked};
 ghost use Rattle.print.specs.Print.{Wrote};
 ghost use Rattle.report.specs.Report.{lineMost};
+ghost use Rattle.text.specs.Blocks.{wholeLines};
 ghost use Rattle.text.specs.Lines.{linesOf};
 ghost use Rattle.trace.specs.Calls.{callOf, carriedOutBy};
 ghost use Rattle.trace.specs.Trace.{
@@ -42,6 +43,7 @@ ghost use Rattle.trace.specs.Trace.{
   linesFrom,
   partialLine,
   passed,
+  printedFrom,
   quiet,
   room,
   secondLine,
@@ -419,4 +421,24 @@ pub fn finish(run: Run, out: &mut [u8], at: usize) -> usize
         Phase::Running => at,
         Phase::Ended => at,
     }
+}
+
+// ---- a text in blocks
+
+// The whole lines of a text, its unfinished line left out. There must be room for what each prints.
+pub fn whole_lines(run: Run, text: &[u8], out: &mut [u8]) -> Step
+    requires { ⌜ room * length (now text) ≤ length (now out) ⌝ }
+    ensures { λ r. ⌜ Gives (linesFrom run (wholeLines (now (text .entry)))) (now (out .entry)) 0 (now (out .exit)) r ⌝ }
+{
+    let whole = text::whole_len(text);
+    lines(run, &text[..whole], out)
+}
+
+// The last lines of the input, and its end. There must be room for what each prints, and for a line behind them.
+pub fn last_lines(run: Run, text: &[u8], out: &mut [u8]) -> usize
+    requires { ⌜ room * (length (now text) + 1) ≤ length (now out) ⌝ }
+    ensures { λ r. ⌜ Wrote (now (out .entry)) 0 (printedFrom run (now (text .entry))) (now (out .exit)) r ⌝ }
+{
+    let s = lines(run, text, out);
+    finish(s.run, out, s.at)
 }
