@@ -1,3 +1,6 @@
 mod Unframed
 mod Steps
 pub mod Room
+mod Cut
+mod Reached
+pub mod Theorem
