@@ -28,7 +28,7 @@ ghost use Rattle.report.specs.Report.{
 };
 
 // The byte for a field without content.
-const DASH: u8 = b'-';
+pub const DASH: u8 = b'-';
 
 // The byte between two notes.
 const COMMA: u8 = b',';

@@ -11,7 +11,6 @@ use commands::Asked;
 use commands::Command;
 use config::Config;
 use decision::state::Note;
-use decision::state::State;
 use text::Span;
 ghost use mathlib.Core.Path.{_≡_};
 ghost use Prim.Native.Nat.{_+_, _*_, _≤_};
@@ -145,9 +144,6 @@ fn judged_phase(done: bool) -> Phase
 // The answer for a line that can't be read, as it is printed.
 const UNREADABLE: u8 = b'7';
 
-// The byte for a state that there is not.
-const DASH: u8 = b'-';
-
 // The byte of an answer's number.
 fn digit(a: Answer) -> u8
     ensures { λ r. ⌜ r ≡ digitOf (numberOf a) ⌝ }
@@ -275,7 +271,7 @@ fn broken(run: Run, out: &mut [u8], at: usize) -> Step
     requires { ⌜ at + lineMost ≤ length (now out) ⌝ }
     ensures { λ r. ⌜ Gives (broken run) (now (out .entry)) at (now (out .exit)) r ⌝ }
 {
-    let p = put_bare(out, at, run.next, UNREADABLE, DASH);
+    let p = put_bare(out, at, run.next, UNREADABLE, report::DASH);
     Step {
         run: passed(run, Phase::Ended),
         at: p,
@@ -292,7 +288,7 @@ fn begin(c: Config, n: u64, out: &mut [u8], at: usize) -> Step
     let mode = s.channel.own.mode;
     let state = mode.state;
     let done = decision::refusals::is_done(answer);
-    let letter = choice::pick8(done, report::letter(state), DASH);
+    let letter = choice::pick8(done, report::letter(state), report::DASH);
     let p = put_bare(out, at, FIRST_NUMBER, digit(answer), letter);
     let channel = s.channel;
     Step {
