@@ -1,19 +1,19 @@
 -- Laws of bits in bytes and in byte strings, for any length. Assumes nothing.
 use mathlib.Core.Path.{_≡_, refl, ap, sym, _∙_}
-use mathlib.Core.Bool.{Bool, true, false, _&&_, not, true≢false, false≢true}
+use mathlib.Core.Bool.{Bool, true, false, _&&_, and-false, not, true≢false, false≢true}
 use mathlib.Core.List.{List, [], _∷_}
 use mathlib.Core.Logic.{_⊎_, inl, inr, ⊎-elim}
 use Prim.Native.Nat.{ℕ, zero, suc, _+_, _*_, _/_, _%_, _^_, _<_, _≤_, min, suc-le-suc}
 use native.Mathlib.Nat.{zero-div, div-one, div-div-eq-div-mul, pow-suc, pow-succ', div-eq-of-lt, lt-of-lt-of-le, lt-of-not-le, zero-min, min-zero, not-suc-le-zero, le-of-suc-le-suc}
 use native.Mathlib.Omega.{arith}
-use lib.Dec.{eqb, ltb}
+use lib.Dec.{eqb, leb, ltb}
 use lib.ListN.{length, getD, take, length-take, List·getD-eq-default}
 use lib.Seq.{getD-take}
 use lib.Arith.{lt-one}
 use lib.Pow.{pow-mono}
 use lib.Bits.{bitAnd, and-shr, and-step, and-zero-l}
 use lib.Count.{trailingZeros}
-use borrow.Author.Tests.{ltb-true, ltb-false, eqb-true, eq-eqb, ne-eqb}
+use borrow.Author.Tests.{leb-true, leb-false, ltb-true, ltb-false, eqb-true, eq-eqb, ne-eqb}
 use Rattle.bits.specs.declared.Lowest.the-variants.{At, Nowhere}
 use Rattle.bits.specs.Bits.{bitOf, bitAt, someMasked, lowestIn}
 use Rattle.bits.proofs.Lists.{any-at, any-some}
@@ -22,9 +22,21 @@ use Rattle.bits.proofs.Lists.{any-at, any-some}
 pub bit-above : (b k : ℕ) → b < 2 ^ 8 → 8 ≤ k → bitOf b k ≡ false
 bit-above b k h l = rw (div-eq-of-lt (lt-of-lt-of-le h (pow-mono l)))
 
+-- what the lesser of two numbers does not exceed, one of the two does not
+min-cases : (a b k : ℕ) → min a b ≤ k → (a ≤ k) ⊎ (b ≤ k)
+min-cases a b k h = by-test (leb a k) refl
+  where
+    by-test : (t : Bool) → leb a k ≡ t → (a ≤ k) ⊎ (b ≤ k)
+    by-test true e = inl (leb-true a k e)
+    by-test false e = inr (omega (arith, h, leb-false a k e))
+
 -- past its end a byte string has no bits
 pub bit-past : (m : List ℕ) (k : ℕ) → length m ≤ k / 8 → bitAt m k ≡ false
 bit-past m k h = rw (List·getD-eq-default {A = ℕ} m 0 h, zero-div)
+
+-- past the end of either of two byte strings no bit stands in both
+pub both-past : (m n : List ℕ) (k : ℕ) → min (length m) (length n) ≤ k / 8 → (bitAt m k && bitAt n k) ≡ false
+both-past m n k h = ⊎-elim (λ l. rw (bit-past m k l)) (λ l. rw (bit-past n k l) (and-false (bitAt m k))) (min-cases (length m) (length n) (k / 8) h)
 
 -- bit-take, by the answer of its test
 take-by : (n : ℕ) (m : List ℕ) (k : ℕ) (b : Bool) → ltb (k / 8) n ≡ b → bitAt (take n m) k ≡ b && bitAt m k

@@ -3,7 +3,7 @@ use mathlib.Core.Path.{_≡_, refl, ap, sym, _∙_}
 use mathlib.Core.Bool.{Bool, true, false, _&&_, _||_, and-eq-true-iff, or-true, false≢true}
 use mathlib.Core.List.{List, [], _∷_}
 use mathlib.Core.Logic.{⊎-elim}
-use Prim.Native.Nat.{ℕ, zero, suc, _+_, _<_, _≤_}
+use Prim.Native.Nat.{ℕ, zero, suc, _+_, _<_, _≤_, zero-le}
 use native.Mathlib.Nat.{eq-or-lt-of-le, le-antisymm, add-zero, zero-add, add-suc, suc-add, le-of-suc-le-suc, not-suc-le-zero}
 use native.Mathlib.Numerals.{add-one}
 use native.Mathlib.Omega.{arith}
@@ -76,6 +76,18 @@ upto-more f xs ys n {v} h u w = (
 -- the loop's end
 pub upto-all : (f : ℕ → ℕ → ℕ) (xs ys : List ℕ) (n : ℕ) → length ys ≤ n → Upto f xs ys n → ys ≡ mapFrom f 0 xs
 upto-all f xs ys n h u = u .0 ∙ first-all f 0 n xs (rw (u .1) at h)
+
+-- a change that leaves every place from n on is done after the first n
+first-rest : (f : ℕ → ℕ → ℕ) (b n : ℕ) (xs : List ℕ) → ((k x : ℕ) → b + n ≤ k → k < b + length xs → f k x ≡ x) → mapFirst f b n xs ≡ mapFrom f b xs
+first-rest f b n [] h = first-all f b n [] zero-le
+first-rest f b zero (x ∷ xs) h =
+    rw (h b x (omega arith) (omega arith)) (ap (λ (l : List ℕ). x ∷ l) (first-rest f (suc b) zero xs (λ k y l m. h k y (omega arith) (omega arith))))
+first-rest f b (suc n) (x ∷ xs) h =
+    ap (λ (l : List ℕ). f b x ∷ l) (first-rest f (suc b) n xs (λ k y l m. h k y (omega arith) (omega arith)))
+
+-- the end of a loop behind whose places nothing changes
+pub upto-rest : (f : ℕ → ℕ → ℕ) (xs ys : List ℕ) (n : ℕ) → ((k x : ℕ) → n ≤ k → k < length ys → f k x ≡ x) → Upto f xs ys n → ys ≡ mapFrom f 0 xs
+upto-rest f xs ys n h u = u .0 ∙ first-rest f 0 n xs (λ k x l m. h k x (omega arith) (rw (u .1) (omega arith)))
 
 -- ---- tests at each place
 

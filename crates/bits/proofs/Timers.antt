@@ -10,8 +10,8 @@ use lib.ListN.{length, getD, replicate, length-replicate, getD-replicate}
 use borrow.Author.Tests.{ne-eqb, le-leb, leb-true}
 use Rattle.bits.specs.Lists.{mapFrom, allBelow, anyBelow}
 use Rattle.bits.specs.Bits.{bitAt}
-use Rattle.bits.specs.Timers.{countedDown, loadedWhere, allWithin, vectorsDiffer}
-use Rattle.bits.proofs.Lists.{length-map-from, at-map, all-true, all-at, all-both, any-ext}
+use Rattle.bits.specs.Timers.{countedDown, loadedWhere, topAt, topsOf, allUnder, allWithin, vectorsDiffer}
+use Rattle.bits.proofs.Lists.{length-map-from, at-map, all-true, all-at, all-ext, all-both, any-ext}
 
 -- ---- counted down
 
@@ -57,10 +57,6 @@ at-loaded-where bytes mask p ts k h = at-map _ ts k h
 
 -- ---- within a mask
 
--- the most that a timer may hold: p where its bit is in the mask, else 0
-abbrev pub topAt : List ℕ → ℕ → ℕ → ℕ
-topAt mask p k = cond (bitAt mask k) p 0
-
 -- in a table within its mask each timer is at most its top
 pub within-at : (mask : List ℕ) (p : ℕ) (ts : List ℕ) (k : ℕ) → allWithin mask p ts ≡ true → k < length ts → getD ts k 0 ≤ topAt mask p k
 unfolding allWithin
@@ -72,10 +68,15 @@ unfolding allWithin
 within-each mask p ts h = all-true _ (length ts) (λ k l. le-leb (getD ts k 0) (topAt mask p k) (h k l))
 
 -- one pass over two tables of one length
-pub within-both : (mask : List ℕ) (p : ℕ) (a b : List ℕ) → length b ≡ length a
-    → allBelow (λ k. leb (getD a k 0) (topAt mask p k) && leb (getD b k 0) (topAt mask p k)) (length a) ≡ allWithin mask p a && allWithin mask p b
-unfolding allWithin
-within-both mask p a b e = rw e (all-both _ _ (length a))
+pub under-both : (tops a b : List ℕ) → length b ≡ length a
+    → allBelow (λ k. leb (getD a k 0) (getD tops k 0) && leb (getD b k 0) (getD tops k 0)) (length a) ≡ allUnder tops a && allUnder tops b
+unfolding allUnder
+under-both tops a b e = rw e (all-both _ _ (length a))
+
+-- a table is within its mask exactly if each timer is at most its top
+pub under-tops : (mask : List ℕ) (p : ℕ) (xs ts : List ℕ) → length ts ≤ length xs → allUnder (topsOf mask p xs) ts ≡ allWithin mask p ts
+unfolding allUnder topsOf allWithin
+under-tops mask p xs ts h = all-ext _ _ (length ts) (λ k l. rw (at-map (λ j t. topAt mask p j) xs k (omega arith)))
 
 -- a table of stopped timers is within every mask
 pub within-zeros : (mask : List ℕ) (p n : ℕ) → allWithin mask p (replicate n 0) ≡ true

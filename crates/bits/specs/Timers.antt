@@ -15,9 +15,20 @@ countedDown ts = mapFrom (λ k t. t - 1) 0 ts
 unfoldable pub loadedWhere : List ℕ → List ℕ → ℕ → List ℕ → List ℕ
 loadedWhere bytes mask p ts = mapFrom (λ k t. cond (bitAt bytes k && bitAt mask k) p t) 0 ts
 
+-- the most that a timer may hold: p where its bit is in the mask, else 0
+abbrev pub topAt : List ℕ → ℕ → ℕ → ℕ
+topAt mask p k = cond (bitAt mask k) p 0
+
 -- each timer is at most p, and 0 where its bit is not in the mask
 unfoldable pub allWithin : List ℕ → ℕ → List ℕ → Bool
-allWithin mask p ts = allBelow (λ k. leb (getD ts k 0) (cond (bitAt mask k) p 0)) (length ts)
+allWithin mask p ts = allBelow (λ k. leb (getD ts k 0) (topAt mask p k)) (length ts)
+
+-- the same in two steps: the tops of a table, and each timer at most what stands at its place there
+unfoldable pub topsOf : List ℕ → ℕ → List ℕ → List ℕ
+topsOf mask p ts = mapFrom (λ k t. topAt mask p k) 0 ts
+
+unfoldable pub allUnder : List ℕ → List ℕ → Bool
+allUnder tops ts = allBelow (λ k. leb (getD ts k 0) (getD tops k 0)) (length ts)
 
 -- the vectors of two tables differ in some bit
 unfoldable pub vectorsDiffer : List ℕ → List ℕ → Bool

@@ -5,11 +5,11 @@
 // bit stands for (`pdu`), and when a timer is loaded or counted (`channel`).
 ghost use mathlib.Core.Path.{_≡_};
 ghost use mathlib.Core.Bool.{_&&_};
-ghost use Prim.Native.Nat.{_-_, _*_, _^_, _≤_, _<_};
+ghost use Prim.Native.Nat.{_-_, _*_, _^_, _≤_, _<_, min};
 ghost use lib.Count.{trailingZeros};
 ghost use lib.ListN.{length, getD, take};
 ghost use Rattle.bits.specs.Bits.{bitOf, bitAt, someMasked, countOnes, lowestIn};
-ghost use Rattle.bits.specs.Timers.{allWithin, countedDown, digitOf, loadedWhere, vectorByte, vectorsDiffer};
+ghost use Rattle.bits.specs.Timers.{allUnder, countedDown, digitOf, loadedWhere, topsOf, vectorByte, vectorsDiffer};
 
 // ---- bits of bytes
 
@@ -121,29 +121,58 @@ pub fn count_down(timers: &mut [u16]) -> bool
     fell
 }
 
-// Each timer whose bit stands in the bytes and in the mask is loaded with `reset`.
+fn lesser(a: usize, b: usize) -> usize
+    ensures { λ r. ⌜ r ≡ min a b ⌝ }
+{
+    if a < b { a } else { b }
+}
+
+// How many of `n` timers have a bit in so many bytes. No product, so that no number is too large.
+fn timers_of(bytes: usize, n: usize) -> usize
+    ensures { λ r. ⌜ r ≡ min (8 * bytes) n ⌝ }
+{
+    if bytes <= n / 8 { 8 * bytes } else { n }
+}
+
+// Each timer whose bit stands in the bytes and in the mask is loaded with `reset`. Timers past the end of either have no
+// bit and are not looked at, so that the loop tests no bound.
 pub fn load_where(bytes: &[u8], mask: &[u8], reset: u16, timers: &mut [u16])
     ensures { λ r. ⌜ now (timers .exit) ≡ loadedWhere (now (bytes .entry)) (now (mask .entry)) reset (now (timers .entry)) ⌝ }
 {
+    let end = timers_of(lesser(bytes.len(), mask.len()), timers.len());
     let mut i: usize = 0;
-    while i < timers.len() {
-        let marked = choice::both(bit_at(bytes, i), bit_at(mask, i));
+    while i < end {
+        let marked = choice::both(
+            bit_of(bytes[i / 8], (i % 8) as u8),
+            bit_of(mask[i / 8], (i % 8) as u8),
+        );
         timers[i] = choice::pick16(marked, reset, timers[i]);
         i = i + 1;
     }
 }
 
-// Is each timer of both tables at most `reset`, and 0 where its bit is not in the first `n` bytes of the mask?
-pub fn pair_within<'a>(mask: &'a [u8], n: usize, reset: u16, a: &'a [u16], b: &'a [u16]) -> bool
-    requires { ⌜ (length (now a) ≤ 8 * length (now mask)) × (length (now b) ≡ length (now a)) ⌝ }
-    ensures { λ r. ⌜ r ≡ allWithin (take n (now (mask .entry))) reset (now (a .entry)) && allWithin (take n (now (mask .entry))) reset (now (b .entry)) ⌝ }
+// The most that each timer may hold: `reset` where its bit is in the first `n` bytes of the mask, else 0.
+pub fn put_tops(mask: &[u8], n: usize, reset: u16, tops: &mut [u16])
+    requires { ⌜ length (now tops) ≤ 8 * length (now mask) ⌝ }
+    ensures { λ r. ⌜ now (tops .exit) ≡ topsOf (take n (now (mask .entry))) reset (now (tops .entry)) ⌝ }
+{
+    let mut i: usize = 0;
+    while i < tops.len() {
+        let marked = choice::both(i / 8 < n, bit_of(mask[i / 8], (i % 8) as u8));
+        tops[i] = choice::pick16(marked, reset, 0);
+        i = i + 1;
+    }
+}
+
+// Is each timer of both tables at most its top?
+pub fn pair_under<'a>(tops: &'a [u16], a: &'a [u16], b: &'a [u16]) -> bool
+    requires { ⌜ (length (now a) ≤ length (now tops)) × (length (now b) ≡ length (now a)) ⌝ }
+    ensures { λ r. ⌜ r ≡ allUnder (now (tops .entry)) (now (a .entry)) && allUnder (now (tops .entry)) (now (b .entry)) ⌝ }
 {
     let mut ok = true;
     let mut i: usize = 0;
     while i < a.len() {
-        let marked = choice::both(i / 8 < n, bit_of(mask[i / 8], (i % 8) as u8));
-        let top = choice::pick16(marked, reset, 0);
-        ok = choice::both(ok, choice::both(a[i] <= top, b[i] <= top));
+        ok = choice::both(ok, choice::both(a[i] <= tops[i], b[i] <= tops[i]));
         i = i + 1;
     }
     ok

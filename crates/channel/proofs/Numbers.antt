@@ -41,7 +41,7 @@ use Rattle.channel.specs.Channel.{
   trafficMoved,
   userAfter,
 }
-use Rattle.channel.specs.Moved.{finished, movedBy, plainly}
+use Rattle.channel.specs.Moved.{finished, movedBy, movedTo, plainly}
 
 -- the calls that change no vector and no byte; a bad confirmation is not heeded
 abbrev pub Plain : Call → Type 0
@@ -76,7 +76,7 @@ heeded (mainFunction taken room) = true
 
 pub by-number : (ch : Channel) (x : Call) → Plain x
     → replied ch x ≡ plainly ch (callNumber x) (refusedPassive (ch .own .config) x) (refusedPnOff (ch .own .config) x) (heeded x)
-unfolding replied answerOf refusal carriedOut ownAfter notesAfter modeAfter trafficAfter trafficMoved userAfter requestsAfter eraAfter eiraAfter heardBy sends ruleFor againFor plainly finished movedBy
+unfolding replied answerOf refusal carriedOut ownAfter notesAfter modeAfter trafficAfter trafficMoved userAfter requestsAfter eraAfter eiraAfter heardBy sends ruleFor againFor plainly finished movedBy movedTo
 by-number ch networkRequest p = rw (differs-not (ch .eira), differs-not (ch .own .era))
 by-number ch networkRelease p = rw (differs-not (ch .eira), differs-not (ch .own .era))
 by-number ch passiveStartUp p = rw (differs-not (ch .eira), differs-not (ch .own .era))

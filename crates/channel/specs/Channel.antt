@@ -51,7 +51,7 @@ use Rattle.decision.specs.Decision.{
 use Rattle.modes.specs.Mode.{mode, modeBy}
 use Rattle.traffic.specs.Traffic.{traffic, trafficBy, setupOf, framing, isDue}
 use Rattle.notes.specs.Notes.{firstBy, secondBy}
-use Rattle.soundness.specs.Sound.{scalarsSound, timersSound}
+use Rattle.soundness.specs.Sound.{soundOf}
 use Rattle.frames.specs.Frames.{accepted, asksRepeat, framed, loadedBy, sentLoaded}
 use Rattle.decision.specs.Refusals.{refusal, isDone, judged}
 
@@ -61,9 +61,7 @@ notes first second ei er = record { first = first; second = second; eira = ei; e
 -- ---- sound
 
 unfoldable pub sound : Channel → Bool
-sound ch =
-    scalarsSound (ch .own .config) (ch .own .ticks) (ch .own .mode) (ch .own .traffic)
-    && (timersSound (ch .own .config) (ch .own .ticks) (ch .own .era) && timersSound (ch .own .config) (ch .own .ticks) (ch .eira))
+sound ch = soundOf (ch .own .config) (ch .own .ticks) (ch .own .mode) (ch .own .traffic) (ch .own .era) (ch .eira)
 
 -- ---- the freshly initialised channel
 

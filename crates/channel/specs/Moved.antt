@@ -3,8 +3,13 @@ use Prim.Native.Nat.{ℕ}
 use mathlib.Core.Bool.{Bool, false, cond}
 use Rattle.answers.specs.declared.Answer.{Answer}
 use Rattle.answers.specs.declared.Answer.the-variants.{Done}
+use Rattle.config.specs.declared.Config.{Config}
+use Rattle.config.specs.declared.Ticks.{Ticks}
 use Rattle.channel.specs.declared.state.Channel.{Channel}
+use Rattle.channel.specs.declared.state.Effect.{Effect}
+use Rattle.decision.specs.declared.state.Mode.{Mode}
 use Rattle.decision.specs.declared.state.Note.{Note}
+use Rattle.decision.specs.declared.state.Traffic.{Traffic}
 use Rattle.channel.specs.declared.state.Reply.{Reply}
 use Rattle.decision.specs.declared.Rule.{Rule}
 use Rattle.modes.specs.Mode.{modeBy}
@@ -13,37 +18,22 @@ use Rattle.notes.specs.Notes.{firstBy, secondBy}
 use Rattle.decision.specs.declared.Rule.the-variants.{Keep}
 use Rattle.decision.specs.Decision.{isNotHere, ruleOf}
 use Rattle.decision.specs.Refusals.{firstOf, isDone, judged}
-use Rattle.channel.specs.Channel.{notes, refused, sound}
+use Rattle.channel.specs.Channel.{refused, sound}
+use Rattle.channel.specs.Parts.{effect, replyOn}
 
 -- moved by a rule; ei and er say whether the vectors changed
+unfoldable pub movedTo : Config → Ticks → Mode → Traffic → Rule → Bool → Bool → Bool → Effect
+movedTo c t m x rule again ei er =
+    effect (modeBy rule again t m) (trafficBy rule again (setupOf c t) m (modeBy rule again t m) x) Done
+    (firstBy rule m (modeBy rule again t m))
+    (secondBy rule m x)
+    ei
+    er
+    false
+
 unfoldable pub movedBy : Channel → Rule → Bool → Bool → Bool → Reply
 movedBy ch rule again ei er =
-    record {
-      channel =
-          record {
-            own =
-                record {
-                  config = ch .own .config;
-                  ticks = ch .own .ticks;
-                  mode = modeBy rule again (ch .own .ticks) (ch .own .mode);
-                  traffic =
-                      trafficBy rule again (setupOf (ch .own .config) (ch .own .ticks)) (ch .own .mode)
-                      (modeBy rule again (ch .own .ticks) (ch .own .mode))
-                      (ch .own .traffic);
-                  user = ch .own .user;
-                  requests = ch .own .requests;
-                  era = ch .own .era;
-                };
-            eira = ch .eira;
-          };
-      answer = Done;
-      notes =
-          notes (firstBy rule (ch .own .mode) (modeBy rule again (ch .own .ticks) (ch .own .mode)))
-          (secondBy rule (ch .own .mode) (ch .own .traffic))
-          ei
-          er;
-      sent = false;
-    }
+    replyOn ch (movedTo (ch .own .config) (ch .own .ticks) (ch .own .mode) (ch .own .traffic) rule again ei er)
 
 -- answered: moved where nothing is refused
 unfoldable pub finished : Channel → Answer → Rule → Bool → Reply
@@ -56,6 +46,6 @@ plainly ch call passive off heeded =
     (cond heeded (ruleOf (ch .own .mode .state) call) Keep)
     false
 
--- the reply of a tick
-unfoldable pub told : Channel → Note → Note → Bool → Bool → Bool → Reply
-told ch first second ei er sent = record { channel = ch; answer = Done; notes = notes first second ei er; sent = sent }
+-- the effect of a tick that is carried out
+unfoldable pub told : Mode → Traffic → Note → Note → Bool → Bool → Bool → Effect
+told m x first second ei er sent = effect m x Done first second ei er sent

@@ -15,6 +15,7 @@ use decision::state::Note;
 use decision::state::State;
 use decision::state::Traffic;
 use state::Channel;
+use state::Effect;
 use state::Notes;
 use state::Own;
 use state::Reply;
@@ -22,7 +23,8 @@ use state::Started;
 ghost use mathlib.Core.Path.{_≡_};
 ghost use mathlib.Core.Bool.{false, true};
 ghost use Rattle.channel.specs.Channel.{fresh, freshMode, freshTraffic, initialised, refused, zero, zeroConfig, zeroTicks};
-ghost use Rattle.channel.specs.Moved.{movedBy};
+ghost use Rattle.channel.specs.Moved.{movedBy, movedTo};
+ghost use Rattle.channel.specs.Parts.{replyOn, unmoved};
 
 pub mod state;
 
@@ -44,25 +46,47 @@ pub fn refused(ch: Channel, a: Answer) -> Reply
     }
 }
 
+// The same of a channel in parts.
+pub fn unmoved(m: Mode, x: Traffic, a: Answer) -> Effect
+    ensures { λ r. ⌜ r ≡ unmoved m x a ⌝ }
+{
+    Effect {
+        mode: m,
+        traffic: x,
+        answer: a,
+        notes: Notes {
+            first: Note::Nothing,
+            second: Note::Nothing,
+            eira: false,
+            era: false,
+        },
+        sent: false,
+    }
+}
+
 // ---- carried out
 
-// The channel moved by a rule, with its notes.
-pub fn moved(mut ch: Channel, rule: Rule, again: bool, ei: bool, er: bool) -> Reply
-    ensures { λ r. ⌜ r ≡ movedBy ch rule again ei er ⌝ }
+// The effect of a rule, with its notes.
+pub fn moved_to(
+    c: Config,
+    t: Ticks,
+    before: Mode,
+    old: Traffic,
+    rule: Rule,
+    again: bool,
+    ei: bool,
+    er: bool,
+) -> Effect
+    ensures { λ r. ⌜ r ≡ movedTo c t before old rule again ei er ⌝ }
 {
-    let before = ch.own.mode;
-    let old = ch.own.traffic;
-    let after = modes::mode_by(rule, again, ch.own.ticks, before);
-    let s = traffic::setup_of(ch.own.config, ch.own.ticks);
+    let after = modes::mode_by(rule, again, t, before);
+    let s = traffic::setup_of(c, t);
     let new = traffic::traffic_by(rule, again, s, before, after, old);
     let first = notes::first_by(rule, before, after);
     let second = notes::second_by(rule, before, old);
-    let mut own = ch.own;
-    own.mode = after;
-    own.traffic = new;
-    ch.own = own;
-    Reply {
-        channel: ch,
+    Effect {
+        mode: after,
+        traffic: new,
         answer: Answer::Done,
         notes: Notes {
             first: first,
@@ -72,6 +96,43 @@ pub fn moved(mut ch: Channel, rule: Rule, again: bool, ei: bool, er: bool) -> Re
         },
         sent: false,
     }
+}
+
+// The reply of an effect on a channel whose tables and bytes are changed already.
+pub fn reply_on(mut ch: Channel, e: Effect) -> Reply
+    ensures { λ r. ⌜ r ≡ replyOn ch e ⌝ }
+{
+    let mode = e.mode;
+    let traffic = e.traffic;
+    let answer = e.answer;
+    let notes = e.notes;
+    let mut own = ch.own;
+    own.mode = mode;
+    own.traffic = traffic;
+    ch.own = own;
+    Reply {
+        channel: ch,
+        answer: answer,
+        notes: notes,
+        sent: e.sent,
+    }
+}
+
+// The channel moved by a rule, with its notes.
+pub fn moved(ch: Channel, rule: Rule, again: bool, ei: bool, er: bool) -> Reply
+    ensures { λ r. ⌜ r ≡ movedBy ch rule again ei er ⌝ }
+{
+    let e = moved_to(
+        ch.own.config,
+        ch.own.ticks,
+        ch.own.mode,
+        ch.own.traffic,
+        rule,
+        again,
+        ei,
+        er,
+    );
+    reply_on(ch, e)
 }
 
 // ---- initialising

@@ -38,6 +38,16 @@ pub struct Reply {
     pub sent: bool,
 }
 
+// What a call gives of a channel whose tables and bytes it changes in place: the rest of the channel after it, and what
+// the reply says.
+pub struct Effect {
+    pub mode: Mode,
+    pub traffic: Traffic,
+    pub answer: Answer,
+    pub notes: Notes,
+    pub sent: bool,
+}
+
 // What initialising gives: the channel and the answer.
 pub struct Started {
     pub channel: Channel,

@@ -16,10 +16,10 @@ use traffic::Setup;
 use traffic::setup_of;
 ghost use mathlib.Core.Path.{_≡_};
 ghost use mathlib.Core.Bool.{_&&_};
-ghost use lib.ListN.{take};
-ghost use Rattle.bits.specs.Timers.{allWithin};
+ghost use lib.ListN.{length, take};
+ghost use Rattle.bits.specs.Timers.{allUnder, topsOf};
 ghost use Rattle.config.specs.Rules.{ticksFor};
-ghost use Rattle.soundness.specs.Sound.{configured, larger, modeSound, only, passiveSound, requestFits, runs, sameTicks, scalarsSound, timersSound, trafficSound};
+ghost use Rattle.soundness.specs.Sound.{configured, larger, modeSound, only, passiveSound, requestFits, runs, sameTicks, soundBy, soundOf, trafficSound};
 
 // Are kept ticks what the times come to? By multiplying.
 fn same_ticks(c: Config, t: Ticks) -> bool
@@ -35,7 +35,8 @@ fn same_ticks(c: Config, t: Ticks) -> bool
     choice::both(ok, ticks::is_conversion(c.period, c.times.reset, t.reset))
 }
 
-fn configured(c: Config, t: Ticks) -> bool
+// Does the configuration pass, and are the kept ticks its own?
+pub fn configured(c: Config, t: Ticks) -> bool
     ensures { λ r. ⌜ r ≡ configured c t ⌝ }
 {
     choice::both(config::first_broken_by(c, t) == 0, same_ticks(c, t))
@@ -123,27 +124,48 @@ fn passive_sound(passive: bool, m: Mode, x: Traffic) -> bool
     only(passive, ok)
 }
 
-// All but the PN timers.
-fn scalars_sound(c: Config, t: Ticks, m: Mode, x: Traffic) -> bool
-    ensures { λ r. ⌜ r ≡ scalarsSound c t m x ⌝ }
+// The most that each PN timer may hold.
+pub fn put_tops(c: Config, t: Ticks, tops: &mut [u16; 56])
+    ensures { λ r. ⌜ now (tops .exit) ≡ topsOf (take (c .pn .length) (c .pn .mask)) (t .reset) (now (tops .entry)) ⌝ }
 {
-    let state = m.state;
-    let mut ok = choice::both(configured(c, t), mode_sound(t, m));
-    ok = choice::both(ok, traffic_sound(setup_of(c, t), state, x));
-    choice::both(ok, passive_sound(c.passive, m, x))
+    let mask = c.pn.mask;
+    put_tops_by(&mask, c.pn.length as usize, t.reset, tops);
+}
+
+// The same with the mask at its length.
+fn put_tops_by(mask: &[u8; 8], n: usize, reset: u16, tops: &mut [u16; 56])
+    ensures { λ r. ⌜ now (tops .exit) ≡ topsOf (take n (now (mask .entry))) reset (now (tops .entry)) ⌝ }
+{
+    bits::put_tops(mask, n, reset, tops);
 }
 
 // The PN timers of both tables, at their lengths.
-fn timers_sound<'a>(
-    mask: &'a [u8; 8],
-    n: usize,
-    reset: u16,
+fn timers_sound<'a>(tops: &'a [u16; 56], era: &'a [u16; 56], eira: &'a [u16; 56]) -> bool
+    ensures { λ r. ⌜ r ≡ (allUnder (now (tops .entry)) (now (era .entry)) && allUnder (now (tops .entry)) (now (eira .entry))) ⌝ }
+    ensures { λ r. ⌜ (length (now (era .entry)) ≡ 56) × (length (now (eira .entry)) ≡ 56) ⌝ }
+{
+    bits::pair_under(tops, era, eira)
+}
+
+// A channel's parts are sound, with what its configuration comes to: whether it passes, what the rules need of it, and
+// the most that each PN timer may hold. None of these changes from call to call, so that a caller can keep them.
+pub fn sound_by<'a>(
+    passes: bool,
+    s: Setup,
+    m: Mode,
+    x: Traffic,
+    tops: &'a [u16; 56],
     era: &'a [u16; 56],
     eira: &'a [u16; 56],
 ) -> bool
-    ensures { λ r. ⌜ r ≡ (allWithin (take n (now (mask .entry))) reset (now (era .entry)) && allWithin (take n (now (mask .entry))) reset (now (eira .entry))) ⌝ }
+    ensures { λ r. ⌜ r ≡ soundBy passes s m x (now (tops .entry)) (now (era .entry)) (now (eira .entry)) ⌝ }
+    ensures { λ r. ⌜ (length (now (era .entry)) ≡ 56) × (length (now (eira .entry)) ≡ 56) ⌝ }
 {
-    bits::pair_within(mask, n, reset, era, eira)
+    let state = m.state;
+    let mut ok = choice::both(passes, mode_sound(s.ticks, m));
+    ok = choice::both(ok, traffic_sound(s, state, x));
+    ok = choice::both(ok, passive_sound(s.passive, m, x));
+    choice::both(ok, timers_sound(tops, era, eira))
 }
 
 // A channel's parts are sound; its tables are lent, not copied.
@@ -155,12 +177,17 @@ pub fn sound<'a>(
     era: &'a [u16; 56],
     eira: &'a [u16; 56],
 ) -> bool
-    ensures { λ r. ⌜ r ≡ (scalarsSound c t m x && (timersSound c t (now (era .entry)) && timersSound c t (now (eira .entry)))) ⌝ }
+    ensures { λ r. ⌜ r ≡ soundOf c t m x (now (era .entry)) (now (eira .entry)) ⌝ }
 {
-    let mask = c.pn.mask;
-    let n = c.pn.length as usize;
-    choice::both(
-        scalars_sound(c, t, m, x),
-        timers_sound(&mask, n, t.reset, era, eira),
+    let mut tops = [0u16; 56];
+    put_tops(c, t, &mut tops);
+    sound_by(
+        configured(c, t),
+        setup_of(c, t),
+        m,
+        x,
+        &tops,
+        era,
+        eira,
     )
 }

@@ -4,19 +4,27 @@
 // channel handed in, refusals included. Leaves to others: what each step does (`modes`, `traffic`, `notes`, `frames`).
 use answers::Answer;
 use channel::state::Channel;
+use channel::state::Effect;
 use channel::state::Notes;
 use channel::state::Reply;
+use config::Config;
+use config::Ticks;
+use decision::state::Mode;
 use decision::state::Note;
+use decision::state::Traffic;
 ghost use mathlib.Core.Path.{_≡_};
 ghost use Rattle.channel.specs.Channel.{ticked, tickedBy};
 ghost use Rattle.channel.specs.Moved.{told};
+ghost use Rattle.channel.specs.Parts.{channelOf, replyOf};
+ghost use Rattle.soundness.specs.Sound.{soundOf};
 
-// The reply of a tick.
-fn told(ch: Channel, first: Note, second: Note, ei: bool, er: bool, sent: bool) -> Reply
-    ensures { λ r. ⌜ r ≡ told ch first second ei er sent ⌝ }
+// The effect of a tick that is carried out.
+fn told(m: Mode, x: Traffic, first: Note, second: Note, ei: bool, er: bool, sent: bool) -> Effect
+    ensures { λ r. ⌜ r ≡ told m x first second ei er sent ⌝ }
 {
-    Reply {
-        channel: ch,
+    Effect {
+        mode: m,
+        traffic: x,
         answer: Answer::Done,
         notes: Notes {
             first: first,
@@ -28,16 +36,25 @@ fn told(ch: Channel, first: Note, second: Note, ei: bool, er: bool, sent: bool) 
     }
 }
 
-// The main function, a tick: `taken` says whether the driver takes a frame, which goes into the first bytes of the lent one.
-pub fn main_function(mut ch: Channel, taken: bool, frame: &mut [u8]) -> Reply
-    ensures { λ r. ⌜ ticked r (now (frame .exit)) ≡ tickedBy ch taken (now (frame .entry)) ⌝ }
+// The main function on a channel in parts, whose timers change in place. `ok` says whether the channel is sound, which the
+// caller has judged.
+pub fn main_function_in_place<'a>(
+    ok: bool,
+    c: Config,
+    t: Ticks,
+    m: Mode,
+    old: Traffic,
+    user: &'a [u8; 8],
+    requests: &'a [u8; 8],
+    era: &mut [u16; 56],
+    eira: &mut [u16; 56],
+    taken: bool,
+    frame: &mut [u8],
+) -> Effect
+    requires { ⌜ ok ≡ soundOf c t m old (now era) (now eira) ⌝ }
+    ensures { λ r. ⌜ ticked (replyOf c t r (now (user .entry)) (now (requests .entry)) (now (era .exit)) (now (eira .exit))) (now (frame .exit)) ≡ tickedBy (channelOf c t m old (now (user .entry)) (now (requests .entry)) (now (era .entry)) (now (eira .entry))) taken (now (frame .entry)) ⌝ }
 {
-    let c = ch.own.config;
-    let t = ch.own.ticks;
-    let m = ch.own.mode;
-    let old = ch.own.traffic;
     let state = m.state;
-    let ok = soundness::sound(c, t, m, old, &ch.own.era, &ch.eira);
     let rule = decision::rule_of(state, decision::MAIN_FUNCTION);
     let size = choice::negation(c.layout.length <= frame.len() as u64);
     let a = decision::refusals::judge(ok, false, false, decision::is_not_here(rule), size);
@@ -51,21 +68,44 @@ pub fn main_function(mut ch: Channel, taken: bool, frame: &mut [u8]) -> Reply
         // Step f without its frame, which no table and no byte of the channel depends on.
         let sent = choice::both(taken, traffic::is_due(s, after, x));
         let y = traffic::framing(s, after, taken, x);
-        let mut own = ch.own;
-        own.mode = after;
-        own.traffic = y;
-        ch.own = own;
         // Step e, and what a sent frame loads.
-        let er = frames::count_down(&mut ch.own.era);
+        let er = frames::count_down(era);
         if sent {
-            let requests = ch.own.requests;
-            let user = ch.own.user;
-            let ei = frames::load_sent(c, t.reset, &requests, &mut ch.eira);
-            frames::send(c, x, &requests, &user, frame);
-            return told(ch, first, second, ei, er, true);
+            let ei = frames::load_sent(c, t.reset, requests, eira);
+            frames::send(c, x, requests, user, frame);
+            return told(after, y, first, second, ei, er, true);
         }
-        let ei = frames::count_down(&mut ch.eira);
-        return told(ch, first, second, ei, er, false);
+        let ei = frames::count_down(eira);
+        return told(after, y, first, second, ei, er, false);
     }
-    channel::refused(ch, a)
+    channel::unmoved(m, old, a)
+}
+
+// The main function, a tick: `taken` says whether the driver takes a frame, which goes into the first bytes of the lent one.
+pub fn main_function(mut ch: Channel, taken: bool, frame: &mut [u8]) -> Reply
+    ensures { λ r. ⌜ ticked r (now (frame .exit)) ≡ tickedBy ch taken (now (frame .entry)) ⌝ }
+{
+    let c = ch.own.config;
+    let t = ch.own.ticks;
+    let m = ch.own.mode;
+    let x = ch.own.traffic;
+    let ok = soundness::sound(c, t, m, x, &ch.own.era, &ch.eira);
+    let user = ch.own.user;
+    let requests = ch.own.requests;
+    let mut eira = ch.eira;
+    let e = main_function_in_place(
+        ok,
+        c,
+        t,
+        m,
+        x,
+        &user,
+        &requests,
+        &mut ch.own.era,
+        &mut eira,
+        taken,
+        frame,
+    );
+    ch.eira = eira;
+    channel::reply_on(ch, e)
 }

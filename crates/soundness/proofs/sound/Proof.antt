@@ -1,11 +1,17 @@
 -- `soundness::sound` meets its contract. Assumes nothing.
-use Rattle.soundness.specs.Sound.{scalarsSound}
+use native.Mathlib.Omega.{arith}
+use borrow.Author.Needs.{needs}
+use lib.ListN.{replicate}
+use Rattle.soundness.proofs.Alike.{sound-alike}
 use Rattle.soundness.proofs.sound.Statement.{statement}
 use Rattle.soundness.proofs.sound.Tie as tie
 
 returns : tie.Need-returns
-unfolding scalarsSound
-returns c = rw (c .both .ensures, c .before .timers-sound .ensures, c .before .before .before .scalars-sound .ensures)
+returns c =
+    let p = c .before .before .before .before in
+    let a = p .before .before .args in
+    rw (c .sound-by .ensures .0, c .before .before .setup-of .ensures, c .before .before .before .configured .ensures, p .put-tops .ensures)
+    (sound-alike (a .c) (a .t) (a .m) (a .x) (replicate 56 0) (a .era .now) (a .eira .now) (omega (arith, c .sound-by .ensures .1 .0)) (omega (arith, c .sound-by .ensures .1 .1)))
 
 pub sound-spec : {M : Type 1} → statement M
-sound-spec = tie.close (tie.spec (λ c κs. tt) (λ c κs. tt) (λ c κs. tt) returns)
+sound-spec = tie.close (tie.spec (λ c κs. tt) (λ c κs. tt) (λ c κs. tt) (λ c κs. tt) returns)

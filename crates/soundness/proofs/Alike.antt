@@ -1,0 +1,20 @@
+-- Soundness by what the configuration comes to is soundness. Assumes nothing.
+use mathlib.Core.Path.{_≡_}
+use mathlib.Core.List.{List}
+use Prim.Native.Nat.{ℕ, _≤_}
+use lib.ListN.{length, take}
+use Rattle.bits.specs.Timers.{topsOf}
+use Rattle.bits.proofs.Timers.{under-tops}
+use Rattle.config.specs.declared.Config.{Config}
+use Rattle.config.specs.declared.Ticks.{Ticks}
+use Rattle.decision.specs.declared.state.Mode.{Mode}
+use Rattle.decision.specs.declared.state.Traffic.{Traffic}
+use Rattle.traffic.specs.Traffic.{setupOf}
+use Rattle.soundness.specs.Sound.{configured, scalarsSound, soundBy, soundOf}
+
+pub sound-alike : (c : Config) (t : Ticks) (m : Mode) (x : Traffic) (xs era eira : List ℕ) → length era ≤ length xs → length eira ≤ length xs
+    → soundBy (configured c t) (setupOf c t) m x (topsOf (take (c .pn .length) (c .pn .mask)) (t .reset) xs) era eira
+    ≡ soundOf c t m x era eira
+unfolding soundBy scalarsSound setupOf
+sound-alike c t m x xs era eira h l =
+    rw (under-tops (take (c .pn .length) (c .pn .mask)) (t .reset) xs era h, under-tops (take (c .pn .length) (c .pn .mask)) (t .reset) xs eira l)
