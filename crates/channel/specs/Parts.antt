@@ -41,6 +41,17 @@ abbrev pub effect : Mode → Traffic → Answer → Note → Note → Bool → B
 effect m x a first second ei er sent =
     record { mode = m; traffic = x; answer = a; notes = notes first second ei er; sent = sent }
 
+-- the effect that a reply tells of
+abbrev pub effectOf : Reply → Effect
+effectOf r =
+    record {
+      mode = r .channel .own .mode;
+      traffic = r .channel .own .traffic;
+      answer = r .answer;
+      notes = r .notes;
+      sent = r .sent;
+    }
+
 -- refused: nothing changes, and nothing is told
 unfoldable pub unmoved : Mode → Traffic → Answer → Effect
 unmoved m x a = effect m x a Nothing Nothing false false false

@@ -24,9 +24,56 @@ ghost use mathlib.Core.Path.{_≡_};
 ghost use mathlib.Core.Bool.{false, true};
 ghost use Rattle.channel.specs.Channel.{fresh, freshMode, freshTraffic, initialised, refused, zero, zeroConfig, zeroTicks};
 ghost use Rattle.channel.specs.Moved.{movedBy, movedTo};
-ghost use Rattle.channel.specs.Parts.{replyOn, unmoved};
+ghost use Rattle.channel.specs.Parts.{channelOf, effectOf, replyOn, unmoved};
 
 pub mod state;
+
+// ---- parts
+
+// The channel of its parts.
+pub fn channel_of(
+    c: Config,
+    t: Ticks,
+    m: Mode,
+    x: Traffic,
+    user: [u8; 8],
+    requests: [u8; 8],
+    era: [u16; 56],
+    eira: [u16; 56],
+) -> Channel
+    ensures { λ r. ⌜ r ≡ channelOf c t m x user requests era eira ⌝ }
+{
+    let own = Own {
+        config: c,
+        ticks: t,
+        mode: m,
+        traffic: x,
+        user: user,
+        requests: requests,
+        era: era,
+    };
+    Channel {
+        own: own,
+        eira: eira,
+    }
+}
+
+// What a reply says besides the tables and bytes of its channel.
+pub fn effect_of(r: Reply) -> Effect
+    ensures { λ e. ⌜ e ≡ effectOf r ⌝ }
+{
+    let mode = r.channel.own.mode;
+    let traffic = r.channel.own.traffic;
+    let answer = r.answer;
+    let notes = r.notes;
+    Effect {
+        mode: mode,
+        traffic: traffic,
+        answer: answer,
+        notes: notes,
+        sent: r.sent,
+    }
+}
 
 // ---- refused
 
@@ -221,19 +268,16 @@ fn zero() -> Channel
 {
     let mut m = fresh_mode();
     m.sending = false;
-    let own = Own {
-        config: zero_config(),
-        ticks: zero_ticks(),
-        mode: m,
-        traffic: fresh_traffic(),
-        user: [0; Channel::BYTES],
-        requests: [0; Channel::BYTES],
-        era: [0; Channel::TIMERS],
-    };
-    Channel {
-        own: own,
-        eira: [0; Channel::TIMERS],
-    }
+    channel_of(
+        zero_config(),
+        zero_ticks(),
+        m,
+        fresh_traffic(),
+        [0; Channel::BYTES],
+        [0; Channel::BYTES],
+        [0; Channel::TIMERS],
+        [0; Channel::TIMERS],
+    )
 }
 
 // ---- the channel
@@ -250,19 +294,16 @@ impl Channel {
     pub fn fresh(c: Config, t: Ticks) -> Channel
         ensures { λ r. ⌜ r ≡ fresh c t ⌝ }
     {
-        let own = Own {
-            config: c,
-            ticks: t,
-            mode: fresh_mode(),
-            traffic: fresh_traffic(),
-            user: [Channel::UNSET; Channel::BYTES],
-            requests: [0; Channel::BYTES],
-            era: [0; Channel::TIMERS],
-        };
-        Channel {
-            own: own,
-            eira: [0; Channel::TIMERS],
-        }
+        channel_of(
+            c,
+            t,
+            fresh_mode(),
+            fresh_traffic(),
+            [Channel::UNSET; Channel::BYTES],
+            [0; Channel::BYTES],
+            [0; Channel::TIMERS],
+            [0; Channel::TIMERS],
+        )
     }
 
     // A channel of a configuration, which is refused by the first rule that it breaks.

@@ -68,3 +68,10 @@ left-went {o} {i} {t} {l} {a} {b} {m} {p} {r} v w = record {
 -- all is written
 pub left-end : {o : List ℕ} {i : ℕ} {t l : List ℕ} {p : ℕ} → Left o i t l p [] → Wrote o i t l p
 left-end {o} {i} {t} {l} {p} v = record { next = let e : i + length t ≡ p + 0 = v .size in omega arith; list = sym (v .list) }
+
+-- what is left is written as one text
+pub left-rest : {o : List ℕ} {i : ℕ} {t l b m : List ℕ} {p r : ℕ} → Left o i t l p b → Wrote l p b m r → Wrote o i t m r
+left-rest {o} {i} {t} {l} {b} {m} {p} {r} v w = record {
+  next = let e : i + length t ≡ p + length b = v .size in let f : r ≡ p + length b = w .next in omega arith;
+  list = w .list ∙ sym (v .list);
+}

@@ -181,13 +181,5 @@ pub fn sound<'a>(
 {
     let mut tops = [0u16; 56];
     put_tops(c, t, &mut tops);
-    sound_by(
-        configured(c, t),
-        setup_of(c, t),
-        m,
-        x,
-        &tops,
-        era,
-        eira,
-    )
+    sound_by(configured(c, t), setup_of(c, t), m, x, &tops, era, eira)
 }

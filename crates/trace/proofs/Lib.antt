@@ -1,4 +1,3 @@
-mod Unframed
 mod Steps
 pub mod Room
 mod Cut

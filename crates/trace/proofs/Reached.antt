@@ -21,7 +21,7 @@ use Rattle.settings.specs.Settings.{isPartial, readConfig, readPartial}
 use Rattle.sleep.specs.Sleep.{reached}
 use Rattle.sleep.specs.Sleep as sleep
 use Rattle.text.specs.Runs.{after}
-use Rattle.trace.specs.Calls.{carriedOutBy}
+use Rattle.dispatch.specs.Calls.{carriedOutBy}
 use Rattle.trace.specs.declared.Phase.{Phase}
 use Rattle.trace.specs.declared.Phase.the-variants.{First, Second, Running, Ended}
 use Rattle.trace.specs.declared.Run.{Run}

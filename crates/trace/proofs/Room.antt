@@ -28,7 +28,7 @@ use Rattle.settings.specs.Settings.{isPartial, readConfig, readPartial}
 use Rattle.text.specs.Blocks.{wholeLen, wholeLines}
 use Rattle.text.specs.Lines.{before, lineFeed, linesOf}
 use Rattle.text.specs.Runs.{outs}
-use Rattle.trace.specs.Calls.{callOf, carriedOutBy}
+use Rattle.dispatch.specs.Calls.{callOf, carriedOutBy}
 use Rattle.trace.specs.declared.Phase.{Phase}
 use Rattle.trace.specs.declared.Phase.the-variants.{First, Second, Running, Ended}
 use Rattle.trace.specs.declared.Run.{Run}

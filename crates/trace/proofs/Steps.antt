@@ -1,16 +1,39 @@
--- Laws of steps: an outcome behind another, and what a call's line is made of. Assumes nothing.
-use mathlib.Core.Path.{_≡_, sym, subst}
-use mathlib.Core.List.{List}
+-- Laws of steps: an outcome behind another, a loop over lines, and what a call's line is made of. Assumes nothing.
+use mathlib.Core.Path.{_≡_, refl, sym, subst, ap, _∙_}
+use mathlib.Core.Bool.{true, false≢true}
+use mathlib.Core.List.{List, [], _∷_}
 use Prim.Native.Nat.{ℕ, _≤_}
 use native.Mathlib.Omega.{arith}
 use Rattle.answers.specs.declared.Answer.{Answer}
 use Rattle.answers.specs.declared.Answer.the-variants.{Done, Unsound, Rule, State, Passive, Length, PnOff}
 use Rattle.answers.specs.Answers.{numberOf}
-use Rattle.print.proofs.Wrote.{then}
+use Rattle.commands.specs.declared.Asked.{Asked}
+use Rattle.commands.specs.declared.Asked.the-variants.{Unreadable, Call}
+use Rattle.print.proofs.Wrote.{Left, left-start, left-went, left-rest, then, wrote-none}
+use Rattle.text.specs.Runs.{after, outs}
 use Rattle.trace.specs.declared.Phase.{Phase}
+use Rattle.trace.specs.declared.Phase.the-variants.{First, Second, Running, Ended}
 use Rattle.trace.specs.declared.Run.{Run}
 use Rattle.trace.specs.declared.Step.{Step}
-use Rattle.trace.specs.Trace.{Gives, Outcome, behind, lineIn, lineOf}
+use Rattle.trace.specs.Trace.{
+  Gives,
+  Outcome,
+  behind,
+  called,
+  doing,
+  isRunning,
+  laterLine,
+  lineIn,
+  lineOf,
+  linesFrom,
+  passed,
+  readingOf,
+  repliedWith,
+  runOf,
+  stepOf,
+  textOf,
+  unread,
+}
 
 pub gives-then : {o p : Outcome} {l m n : List ℕ} {i : ℕ} {s t : Step} → Gives o l i m s → Gives p m (s .at) n t → Gives (behind o p) l i n t
 gives-then v w = record { run = w .run; text = then (v .text) (w .text) }
@@ -18,6 +41,65 @@ gives-then v w = record { run = w .run; text = then (v .text) (w .text) }
 -- a line in the phase of its run
 pub gives-in : (run : Run) (l : List ℕ) {p : Phase} {k m : List ℕ} {i : ℕ} {s : Step} → run .phase ≡ p → Gives (lineIn p run l) k i m s → Gives (lineOf run l) k i m s
 gives-in run l {p} {k} {m} {i} {s} e g = subst (λ (q : Phase). Gives (lineIn q run l) k i m s) (sym e) g
+
+-- ---- a loop over lines
+
+-- a loop that started with the run o, the lines `all` and the list k from place i on has come to the run r, with the lines
+-- `left` before it and the list l as it is now, from place p on
+pub record Going (o : Run) (all : List (List ℕ)) (k : List ℕ) (i : ℕ) (l : List ℕ) (p : ℕ) (r : Run) (left : List (List ℕ)) : Type 0 where
+  pub run : after stepOf o all ≡ after stepOf r left
+  pub text : Left k i (outs stepOf textOf o all) l p (outs stepOf textOf r left)
+
+pub going-start : (o : Run) (all : List (List ℕ)) (k : List ℕ) (i : ℕ) → Going o all k i k i o all
+going-start o all k i = record { run = refl; text = left-start _ _ _ }
+
+-- one more line
+pub going-on : {o r : Run} {all left : List (List ℕ)} {k l m x : List ℕ} {i p : ℕ} {s : Step} → Going o all k i l p r (x ∷ left)
+    → Gives (lineOf r x) l p m s
+    → Going o all k i m (s .at) (s .run) left
+unfolding after outs
+going-on {o} {r} {all} {left} {k} {l} {m} {x} {i} {p} {s} v g = record {
+  run = v .run ∙ ap (λ (q : Run). after stepOf q left) (sym (g .run));
+  text = subst (λ (q : Run). Left k i (outs stepOf textOf o all) m (s .at) (outs stepOf textOf q left)) (sym (g .run)) (left-went (v .text) (g .text));
+}
+
+-- all the lines that are left
+pub going-rest : {o r : Run} {all left : List (List ℕ)} {k l m : List ℕ} {i p : ℕ} {s : Step} → Going o all k i l p r left
+    → Gives (linesFrom r left) l p m s
+    → Gives (linesFrom o all) k i m s
+unfolding linesFrom
+going-rest v g = record { run = g .run ∙ sym (v .run); text = left-rest (v .text) (g .text) }
+
+-- none is left
+pub going-end : {o r : Run} {all : List (List ℕ)} {k l : List ℕ} {i p : ℕ} → Going o all k i l p r []
+    → Gives (linesFrom o all) k i l (record { run = r; at = p })
+unfolding linesFrom after outs
+going-end {o} {r} {all} {k} {l} {i} {p} v = going-rest v (record { run = refl; text = wrote-none l p })
+
+-- ---- a run in its calls
+
+-- a line behind the configuration does not look at the phase
+pub later-running : (run : Run) (l : List ℕ) → laterLine (runOf Running (run .next) (run .channel)) l ≡ laterLine run l
+unfolding laterLine called repliedWith unread passed
+later-running run l = by-asked (readingOf l .asked)
+  where
+    by-asked : (a : Asked) → doing (runOf Running (run .next) (run .channel)) a (readingOf l .bytes) ≡ doing run a (readingOf l .bytes)
+    by-asked Unreadable = refl
+    by-asked (Call k) = refl
+
+-- a phase that tests as running is
+pub running-true : (p : Phase) → isRunning p ≡ true → p ≡ Running
+running-true First e = absurd (false≢true e)
+running-true Second e = absurd (false≢true e)
+running-true Running e = refl
+running-true Ended e = absurd (false≢true e)
+
+-- lines from a run in its calls, by its number and its channel
+pub gives-running : (run : Run) (ls : List (List ℕ)) {k l : List ℕ} {i : ℕ} {s : Step} → run .phase ≡ Running
+    → Gives (linesFrom (runOf Running (run .next) (run .channel)) ls) k i l s
+    → Gives (linesFrom run ls) k i l s
+gives-running run ls {k} {l} {i} {s} e g =
+    subst (λ (p : Phase). Gives (linesFrom (runOf p (run .next) (run .channel)) ls) k i l s) (sym e) g
 
 -- an answer's number has one digit
 pub number-le : (a : Answer) → numberOf a ≤ 6

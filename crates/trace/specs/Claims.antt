@@ -12,7 +12,7 @@ use Rattle.settings.specs.Settings.{isPartial, readConfig, readPartial}
 use Rattle.sleep.specs.Sleep.{ChannelSleeps, reached}
 use Rattle.text.specs.Blocks.{cut, keptOf, wholeLines}
 use Rattle.text.specs.Runs.{after, joined}
-use Rattle.trace.specs.Calls.{callOf}
+use Rattle.dispatch.specs.Calls.{callOf}
 use Rattle.trace.specs.declared.Phase.the-variants.{Running}
 use Rattle.trace.specs.declared.Run.{Run}
 use Rattle.trace.specs.Trace.{frameMost, lineOf, linesFrom, printed, printedFrom, readingOf, start, stepOf}

@@ -11,20 +11,24 @@ use Rattle.channel.specs.declared.state.Channel.{Channel}
 use Rattle.channel.specs.declared.state.Notes.{Notes}
 use Rattle.channel.specs.declared.state.Reply.{Reply}
 use Rattle.channel.specs.Channel.{Ticked, fresh, initialised, notes}
+use Rattle.channel.specs.Parts.{channelOf}
 use Rattle.commands.specs.declared.Command.{Command}
 use Rattle.commands.specs.declared.Asked.{Asked}
 use Rattle.commands.specs.declared.Asked.the-variants.{Unreadable, Call}
 use Rattle.commands.specs.Commands.{Reading, reading}
 use Rattle.config.specs.declared.Config.{Config}
+use Rattle.config.specs.declared.Ticks.{Ticks}
 use Rattle.config.specs.Rules.{ticksFor}
+use Rattle.decision.specs.declared.state.Mode.{Mode}
 use Rattle.decision.specs.declared.state.Note.the-variants.{Nothing}
+use Rattle.decision.specs.declared.state.Traffic.{Traffic}
 use Rattle.decision.specs.Refusals.{isDone}
 use Rattle.print.specs.Print.{Wrote}
 use Rattle.report.specs.Report.{dash, letterOf, lineMost, lineText}
 use Rattle.settings.specs.Settings.{isPartial, readConfig, readPartial}
 use Rattle.text.specs.Lines.{linesOf}
 use Rattle.text.specs.Runs.{after, outs}
-use Rattle.trace.specs.Calls.{callOf, carriedOutBy}
+use Rattle.dispatch.specs.Calls.{callOf, carriedOutBy}
 use Rattle.trace.specs.declared.Phase.{Phase}
 use Rattle.trace.specs.declared.Phase.the-variants.{First, Second, Running, Ended}
 use Rattle.trace.specs.declared.Run.{Run}
@@ -34,6 +38,10 @@ use Rattle.trace.specs.declared.Step.{Step}
 
 abbrev pub runOf : Phase → ℕ → Channel → Run
 runOf phase next channel = record { phase = phase; next = next; channel = channel }
+
+-- a run in its calls, with its channel in parts
+abbrev pub runIn : ℕ → Config → Ticks → Mode → Traffic → List ℕ → List ℕ → List ℕ → List ℕ → Run
+runIn n c t m x user requests era eira = runOf Running n (channelOf c t m x user requests era eira)
 
 -- the number of line 1, which is the configuration's
 abbrev pub firstNumber : ℕ
@@ -76,6 +84,10 @@ behind o p = outcome (p .run) (o .text ++ p .text)
 pub record Gives (o : Outcome) (l : List ℕ) (i : ℕ) (m : List ℕ) (s : Step) : Type 0 where
   pub run : s .run ≡ o .run
   pub text : Wrote l i (o .text) m (s .at)
+
+-- the step to the line behind number n, with the channel in parts
+abbrev pub stepIn : ℕ → Config → Ticks → Mode → Traffic → List ℕ → List ℕ → List ℕ → List ℕ → ℕ → Step
+stepIn n c t m x user requests era eira at = record { run = runIn (counted n) c t m x user requests era eira; at = at }
 
 -- ---- printed lines
 

@@ -6,22 +6,25 @@
 use answers::Answer;
 use channel::state::Channel;
 use channel::state::Notes;
-use channel::state::Reply;
 use commands::Asked;
 use commands::Command;
 use config::Config;
+use config::Ticks;
+use decision::state::Mode;
 use decision::state::Note;
+use decision::state::State;
+use decision::state::Traffic;
 use text::Span;
 ghost use mathlib.Core.Path.{_≡_};
 ghost use Prim.Native.Nat.{_+_, _*_, _≤_};
-ghost use lib.ListN.{length};
+ghost use lib.ListN.{length, drop};
 ghost use Rattle.answers.specs.Answers.{numberOf};
-ghost use Rattle.channel.specs.Channel.{ticked};
 ghost use Rattle.print.specs.Print.{Wrote};
-ghost use Rattle.report.specs.Report.{lineMost};
+ghost use Rattle.report.specs.Report.{letterOf, lineMost};
+ghost use Rattle.soundness.specs.Sound.{soundOf};
 ghost use Rattle.text.specs.Blocks.{wholeLines};
 ghost use Rattle.text.specs.Lines.{linesOf};
-ghost use Rattle.trace.specs.Calls.{callOf, carriedOutBy};
+ghost use Rattle.trace.specs.declared.Phase.the-variants.{Running};
 ghost use Rattle.trace.specs.Trace.{
   Gives,
   bareText,
@@ -45,10 +48,12 @@ ghost use Rattle.trace.specs.Trace.{
   printedFrom,
   quiet,
   room,
+  runIn,
   secondLine,
   sentBytes,
   start,
-  unread,
+  stepIn,
+  unreadable,
 };
 
 // ---- runs
@@ -172,26 +177,6 @@ fn put_bare(out: &mut [u8], at: usize, n: u64, answer: u8, state: u8) -> usize
 
 // ---- calls
 
-// A call with its argument; its bytes stand in front of the lent ones, and a frame goes into the lent frame.
-fn carry_out(ch: Channel, k: Command, bytes: &[u8], frame: &mut [u8]) -> Reply
-    ensures { λ r. ⌜ ticked r (now (frame .exit)) ≡ carriedOutBy ch (callOf k (now (bytes .entry)) (length (now (frame .entry)))) (now (frame .entry)) ⌝ }
-{
-    match k {
-        Command::NetworkRequest => calls::network_request(ch),
-        Command::NetworkRelease => calls::network_release(ch),
-        Command::PassiveStartUp => calls::passive_start_up(ch),
-        Command::RepeatMessageRequest => calls::repeat_message_request(ch),
-        Command::DisableCommunication => calls::disable_communication(ch),
-        Command::EnableCommunication => calls::enable_communication(ch),
-        Command::TxConfirmation(good) => calls::tx_confirmation(ch, good),
-        Command::RxIndication(n) => inputs::rx_indication(ch, pdu::part(bytes, 0, n)),
-        Command::ConfirmPnAvailability => calls::confirm_pn_availability(ch),
-        Command::SetUserData(n) => inputs::set_user_data(ch, pdu::part(bytes, 0, n)),
-        Command::SetPnRequests(n) => inputs::set_pn_requests(ch, pdu::part(bytes, 0, n)),
-        Command::MainFunction(taken) => tick::main_function(ch, taken, frame),
-    }
-}
-
 // The bytes of a frame that are printed: the first so many if it was sent.
 fn sent_bytes<'a>(sent: bool, length: u64, frame: &'a [u8]) -> &'a [u8]
     ensures { λ r. ⌜ now r ≡ sentBytes sent length (now (frame .entry)) ⌝ }
@@ -204,19 +189,56 @@ const FRAME_MOST: usize = 8;
 
 const BYTES_MOST: usize = 40;
 
-// A call, and the line of its reply. There must be room for the longest line.
-fn called(run: Run, k: Command, bytes: &[u8], out: &mut [u8], at: usize) -> Step
-    requires { ⌜ at + lineMost + 2 * frameMost ≤ length (now out) ⌝ }
-    ensures { λ r. ⌜ Gives (called run k (now (bytes .entry))) (now (out .entry)) at (now (out .exit)) r ⌝ }
+// What a line leaves of a channel in parts, whose tables and bytes it changes in place, and the place behind what is
+// printed so far.
+struct Moved {
+    mode: Mode,
+    traffic: Traffic,
+    at: usize,
+}
+
+// A call, and the line of its reply; n is the number of the line. `ok` says whether the channel is sound, and there must be
+// room for the longest line.
+fn called(
+    ok: bool,
+    c: Config,
+    t: Ticks,
+    m: Mode,
+    x: Traffic,
+    user: &mut [u8; 8],
+    requests: &mut [u8; 8],
+    era: &mut [u16; 56],
+    eira: &mut [u16; 56],
+    n: u64,
+    k: Command,
+    bytes: &[u8],
+    out: &mut [u8],
+    at: usize,
+) -> Moved
+    requires { ⌜ (ok ≡ soundOf c t m x (now era) (now eira)) × (at + lineMost + 2 * frameMost ≤ length (now out)) ⌝ }
+    ensures { λ r. ⌜ Gives (called (runIn n c t m x (now (user .entry)) (now (requests .entry)) (now (era .entry)) (now (eira .entry))) k (now (bytes .entry))) (now (out .entry)) at (now (out .exit)) (stepIn n c t (r .mode) (r .traffic) (now (user .exit)) (now (requests .exit)) (now (era .exit)) (now (eira .exit)) (r .at)) ⌝ }
 {
-    let n = run.next;
     let mut frame = [0u8; FRAME_MOST];
-    let r = carry_out(run.channel, k, bytes, &mut frame);
-    let answer = r.answer;
-    let mode = r.channel.own.mode;
+    let e = dispatch::carry_out_in_place(
+        ok,
+        c,
+        t,
+        m,
+        x,
+        user,
+        requests,
+        era,
+        eira,
+        k,
+        bytes,
+        &mut frame,
+    );
+    let mode = e.mode;
+    let traffic = e.traffic;
+    let answer = e.answer;
+    let notes = e.notes;
     let state = mode.state;
-    let sent = sent_bytes(r.sent, r.channel.own.config.layout.length, &frame);
-    let notes = r.notes;
+    let sent = sent_bytes(e.sent, c.layout.length, &frame);
     let p = report::put_line(
         out,
         at,
@@ -226,28 +248,69 @@ fn called(run: Run, k: Command, bytes: &[u8], out: &mut [u8], at: usize) -> Step
         notes,
         sent,
     );
-    let channel = r.channel;
-    Step {
-        run: Run {
-            phase: Phase::Running,
-            next: counted(n),
-            channel: channel,
-        },
+    Moved {
+        mode: mode,
+        traffic: traffic,
         at: p,
     }
 }
 
-// A line behind the configuration that can't be read changes nothing. There must be room for its own.
-fn unreadable(run: Run, out: &mut [u8], at: usize) -> Step
+// The line for one that can't be read, in a state. There must be room for it.
+fn put_unreadable(out: &mut [u8], at: usize, n: u64, state: State) -> usize
     requires { ⌜ at + lineMost ≤ length (now out) ⌝ }
-    ensures { λ r. ⌜ Gives (unread run) (now (out .entry)) at (now (out .exit)) r ⌝ }
+    ensures { λ r. ⌜ Wrote (now (out .entry)) at (bareText n unreadable (letterOf state)) (now (out .exit)) r ⌝ }
 {
-    let mode = run.channel.own.mode;
-    let state = mode.state;
-    let p = put_bare(out, at, run.next, UNREADABLE, report::letter(state));
-    Step {
-        run: passed(run, Phase::Running),
-        at: p,
+    put_bare(out, at, n, UNREADABLE, report::letter(state))
+}
+
+// A line behind the configuration; one that can't be read changes nothing. `ok` says whether the channel is sound, and there
+// must be room for the longest line.
+fn later_line_in_place(
+    ok: bool,
+    c: Config,
+    t: Ticks,
+    m: Mode,
+    x: Traffic,
+    user: &mut [u8; 8],
+    requests: &mut [u8; 8],
+    era: &mut [u16; 56],
+    eira: &mut [u16; 56],
+    n: u64,
+    l: &[u8],
+    out: &mut [u8],
+    at: usize,
+) -> Moved
+    requires { ⌜ (ok ≡ soundOf c t m x (now era) (now eira)) × (at + lineMost + 2 * frameMost ≤ length (now out)) ⌝ }
+    ensures { λ r. ⌜ Gives (laterLine (runIn n c t m x (now (user .entry)) (now (requests .entry)) (now (era .entry)) (now (eira .entry))) (now (l .entry))) (now (out .entry)) at (now (out .exit)) (stepIn n c t (r .mode) (r .traffic) (now (user .exit)) (now (requests .exit)) (now (era .exit)) (now (eira .exit)) (r .at)) ⌝ }
+{
+    let mut bytes = [0u8; BYTES_MOST];
+    let asked = commands::read(l, &mut bytes);
+    match asked {
+        Asked::Call(k) => called(
+            ok,
+            c,
+            t,
+            m,
+            x,
+            user,
+            requests,
+            era,
+            eira,
+            n,
+            k,
+            &bytes,
+            out,
+            at,
+        ),
+        Asked::Unreadable => {
+            let state = m.state;
+            let p = put_unreadable(out, at, n, state);
+            Moved {
+                mode: m,
+                traffic: x,
+                at: p,
+            }
+        }
     }
 }
 
@@ -256,11 +319,39 @@ fn later_line(run: Run, l: &[u8], out: &mut [u8], at: usize) -> Step
     requires { ⌜ at + lineMost + 2 * frameMost ≤ length (now out) ⌝ }
     ensures { λ r. ⌜ Gives (laterLine run (now (l .entry))) (now (out .entry)) at (now (out .exit)) r ⌝ }
 {
-    let mut bytes = [0u8; BYTES_MOST];
-    let asked = commands::read(l, &mut bytes);
-    match asked {
-        Asked::Call(k) => called(run, k, &bytes, out, at),
-        Asked::Unreadable => unreadable(run, out, at),
+    let n = run.next;
+    let c = run.channel.own.config;
+    let t = run.channel.own.ticks;
+    let m = run.channel.own.mode;
+    let x = run.channel.own.traffic;
+    let mut user = run.channel.own.user;
+    let mut requests = run.channel.own.requests;
+    let mut era = run.channel.own.era;
+    let mut eira = run.channel.eira;
+    let ok = soundness::sound(c, t, m, x, &era, &eira);
+    let s = later_line_in_place(
+        ok,
+        c,
+        t,
+        m,
+        x,
+        &mut user,
+        &mut requests,
+        &mut era,
+        &mut eira,
+        n,
+        l,
+        out,
+        at,
+    );
+    let channel = channel::channel_of(c, t, s.mode, s.traffic, user, requests, era, eira);
+    Step {
+        run: Run {
+            phase: Phase::Running,
+            next: counted(n),
+            channel: channel,
+        },
+        at: s.at,
     }
 }
 
@@ -379,6 +470,67 @@ pub fn line(run: Run, l: &[u8], out: &mut [u8], at: usize) -> Step
 // Room for what a byte of a text prints at most: a line has a byte at least, its line feed.
 pub const ROOM: usize = 65;
 
+// The lines of a text behind the configuration, from a place of the text on, printed from a place of the buffer on. What the
+// configuration comes to is found once for all lines. There must be room for what each prints.
+fn running(run: Run, text: &[u8], from: usize, out: &mut [u8], begin: usize) -> Step
+    requires { ⌜ (run .phase ≡ Running) × (begin ≤ room * from) × (room * length (now text) ≤ length (now out)) ⌝ }
+    ensures { λ r. ⌜ Gives (linesFrom run (linesOf (drop from (now (text .entry))))) (now (out .entry)) begin (now (out .exit)) r ⌝ }
+{
+    let c = run.channel.own.config;
+    let t = run.channel.own.ticks;
+    let passes = soundness::configured(c, t);
+    let setup = traffic::setup_of(c, t);
+    let mut tops = [0u16; 56];
+    soundness::put_tops(c, t, &mut tops);
+    let mut m = run.channel.own.mode;
+    let mut x = run.channel.own.traffic;
+    let mut user = run.channel.own.user;
+    let mut requests = run.channel.own.requests;
+    let mut era = run.channel.own.era;
+    let mut eira = run.channel.eira;
+    let mut n = run.next;
+    let mut put = begin;
+    let mut at = from;
+    loop {
+        match text::line_at(text, at) {
+            Span::Line(first, end) => {
+                let ok = soundness::sound_by(passes, setup, m, x, &tops, &era, &eira);
+                let s = later_line_in_place(
+                    ok,
+                    c,
+                    t,
+                    m,
+                    x,
+                    &mut user,
+                    &mut requests,
+                    &mut era,
+                    &mut eira,
+                    n,
+                    &text[first..end],
+                    out,
+                    put,
+                );
+                m = s.mode;
+                x = s.traffic;
+                n = counted(n);
+                put = s.at;
+                at = end + 1;
+            }
+            Span::End => {
+                let channel = channel::channel_of(c, t, m, x, user, requests, era, eira);
+                return Step {
+                    run: Run {
+                        phase: Phase::Running,
+                        next: n,
+                        channel: channel,
+                    },
+                    at: put,
+                };
+            }
+        }
+    }
+}
+
 // The lines of a text, printed from the start of the buffer on. There must be room for what each prints.
 pub fn lines(run: Run, text: &[u8], out: &mut [u8]) -> Step
     requires { ⌜ room * length (now text) ≤ length (now out) ⌝ }
@@ -388,6 +540,10 @@ pub fn lines(run: Run, text: &[u8], out: &mut [u8]) -> Step
     let mut put: usize = 0;
     let mut at = 0;
     loop {
+        let phase = now.phase;
+        if is_running(phase) {
+            return running(now, text, at, out, put);
+        }
         match text::line_at(text, at) {
             Span::Line(first, end) => {
                 let s = line(now, &text[first..end], out, put);

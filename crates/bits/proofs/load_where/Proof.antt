@@ -24,7 +24,7 @@ loop-again c =
     let b = c .before .before in
     let l = b .before .before .before .before .before .before .loop in (
       upto-more _ _ (l .timers) (l .i) (omega arith) (l .inv .0)
-      (rw (b .both .ensures, b .before .bit-of2 .ensures, b .before .before .before .bit-of .ensures) at (c .pick16 .ensures)),
+          (rw (b .both .ensures, b .before .bit-of2 .ensures, b .before .before .before .bit-of .ensures) at (c .pick16 .ensures)),
       simp length-set (l .inv .1),
     )
 

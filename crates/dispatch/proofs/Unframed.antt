@@ -8,7 +8,7 @@ use Rattle.channel.specs.declared.state.Channel.{Channel}
 use Rattle.channel.specs.declared.state.Reply.{Reply}
 use Rattle.channel.specs.Channel.{isTaken, replied, ticked}
 use Rattle.channel.proofs.Carried.{frame-kept}
-use Rattle.trace.specs.Calls.{carriedOutBy}
+use Rattle.dispatch.specs.Calls.{carriedOutBy}
 
 pub unframed : (ch : Channel) (x : Call) (frame : List ℕ) {r : Reply} → isTaken x ≡ false → r ≡ replied ch x
     → ticked r frame ≡ carriedOutBy ch x frame

@@ -1,11 +1,11 @@
--- `trace::carry_out` meets its contract. Assumes nothing.
+-- `dispatch::carry_out` meets its contract. Assumes nothing.
 use mathlib.Core.Path.{_≡_, refl}
 use borrow.Author.Needs.{needs}
 use Rattle.channel.specs.Channel.{tickedBy}
-use Rattle.trace.specs.Calls.{carriedOutBy}
-use Rattle.trace.proofs.Unframed.{unframed}
-use Rattle.trace.proofs.carry_out.Statement.{statement}
-use Rattle.trace.proofs.carry_out.Tie as tie
+use Rattle.dispatch.specs.Calls.{carriedOutBy}
+use Rattle.dispatch.proofs.Unframed.{unframed}
+use Rattle.dispatch.proofs.carry_out.Statement.{statement}
+use Rattle.dispatch.proofs.carry_out.Tie as tie
 
 returns : tie.Need-returns
 returns c = rw (c .before .enum-told .given .1) (unframed _ _ _ refl (c .network-request .ensures))
