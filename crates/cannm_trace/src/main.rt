@@ -5,8 +5,8 @@
 // `trace`. No contract can say which bytes are read and written; that they are the input's and the text's is tested.
 use libc::STDIN_FILENO;
 use libc::STDOUT_FILENO;
-use trace::Run;
-use trace::Step;
+use replay::Run;
+use replay::Step;
 ghost use mathlib.Core.Path.{_≡_};
 ghost use Prim.Native.Nat.{_+_, _*_, _≤_};
 ghost use lib.ListN.{length, take};

@@ -8,30 +8,14 @@ use Rattle.commands.specs.Commands.{Reading}
 use Rattle.commands.proofs.Cut.{reading-cut}
 use Rattle.config.specs.declared.Config.{Config}
 use Rattle.settings.specs.declared.Setting.{Setting}
-use Rattle.settings.specs.Settings.{isPartial, readConfig, readPartial}
 use Rattle.settings.proofs.Cut.{Alike, is-partial-cut, read-config-cut, read-partial-cut}
 use Rattle.text.specs.Blocks.{cut}
-use Rattle.trace.specs.declared.Phase.{Phase}
-use Rattle.trace.specs.declared.Phase.the-variants.{First, Second, Running, Ended}
-use Rattle.trace.specs.declared.Run.{Run}
+use Rattle.replay.specs.declared.Phase.{Phase}
+use Rattle.replay.specs.declared.Phase.the-variants.{First, Second, Running, Ended}
+use Rattle.replay.specs.declared.Run.{Run}
 use Rattle.trace.specs.Claims.{EveryLineIsCut}
-use Rattle.trace.specs.Trace.{
-  Outcome,
-  begun,
-  behind,
-  broken,
-  bytesMost,
-  counted,
-  doing,
-  firstLine,
-  following,
-  holding,
-  laterLine,
-  lineIn,
-  outcome,
-  partialLine,
-  secondLine,
-}
+use Rattle.replay.specs.Replay.{Outcome, bytesMost, counted, doing, laterLine, outcome}
+use Rattle.trace.specs.Trace.{begun, broken, firstLine, following, holding, lineIn, partialLine, secondLine}
 
 -- settings that can't be told apart come to the same
 same-by : (f : Config → Outcome) (g : Outcome) {s t : Setting} → Alike s t

@@ -7,7 +7,6 @@ use native.Mathlib.Omega.{arith}
 use lib.Dec.{eqb}
 use borrow.Author.Tests.{eqb-true}
 use Rattle.channel.specs.declared.state.Channel.{Channel}
-use Rattle.channel.specs.declared.state.Started.{Started}
 use Rattle.answers.specs.declared.Answer.the-variants.{Done, Rule}
 use Rattle.channel.specs.Channel.{fresh, initialised, started, zero}
 use Rattle.commands.specs.declared.Asked.{Asked}
@@ -16,40 +15,17 @@ use Rattle.config.specs.declared.Config.{Config}
 use Rattle.config.specs.Rules.{firstBroken, ticksFor}
 use Rattle.decision.specs.Decision as calls
 use Rattle.decision.specs.Refusals.{isDone}
-use Rattle.settings.specs.declared.Setting.{Setting}
 use Rattle.settings.specs.Settings.{isPartial, readConfig, readPartial}
 use Rattle.sleep.specs.Sleep.{reached}
 use Rattle.sleep.specs.Sleep as sleep
 use Rattle.text.specs.Runs.{after}
 use Rattle.dispatch.specs.Calls.{carriedOutBy}
-use Rattle.trace.specs.declared.Phase.{Phase}
-use Rattle.trace.specs.declared.Phase.the-variants.{First, Second, Running, Ended}
-use Rattle.trace.specs.declared.Run.{Run}
+use Rattle.replay.specs.declared.Phase.{Phase}
+use Rattle.replay.specs.declared.Phase.the-variants.{Second, Running, Ended}
+use Rattle.replay.specs.declared.Run.{Run}
 use Rattle.trace.specs.Claims.{callsIn, callsOf, configIn, linesBehind}
-use Rattle.trace.specs.Trace.{
-  begun,
-  broken,
-  called,
-  counted,
-  doing,
-  firstLine,
-  firstNumber,
-  following,
-  holding,
-  judgedPhase,
-  laterLine,
-  lineIn,
-  outcome,
-  partialLine,
-  passed,
-  readingOf,
-  repliedWith,
-  runOf,
-  secondLine,
-  start,
-  stepOf,
-  unread,
-}
+use Rattle.replay.specs.Replay.{called, counted, doing, laterLine, outcome, passed, readingOf, repliedWith, runOf, unread}
+use Rattle.trace.specs.Trace.{begun, broken, firstLine, firstNumber, following, holding, judgedPhase, lineIn, partialLine, secondLine, start, stepOf}
 
 -- ---- a run that has ended stays so
 

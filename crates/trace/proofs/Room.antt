@@ -1,7 +1,7 @@
 -- How much room the text of a line takes. Assumes nothing.
-use mathlib.Core.Path.{_≡_, refl, sym, ap, _∙_}
+use mathlib.Core.Path.{_≡_, refl}
 use mathlib.Core.Bool.{Bool, true, false, cond}
-use mathlib.Core.List.{List, [], _∷_, _++_}
+use mathlib.Core.List.{List, [], _∷_}
 use Prim.Native.Nat.{ℕ, suc, _+_, _*_, _≤_}
 use native.Mathlib.Omega.{arith}
 use lib.Dec.{eqb}
@@ -9,17 +9,15 @@ use lib.ListN.{length, replicate, set, take, length-append, length-set, length-t
 use lib.Seq.{length-sets}
 use Rattle.answers.specs.Answers.{numberOf}
 use Rattle.channel.specs.declared.state.Channel.{Channel}
-use Rattle.channel.specs.Channel.{Ticked, frameAfter, replied, trafficMoved}
+use Rattle.channel.specs.Channel.{frameAfter, replied, trafficMoved}
 use Rattle.commands.specs.declared.Command.{Command}
 use Rattle.commands.specs.declared.Asked.{Asked}
 use Rattle.commands.specs.declared.Asked.the-variants.{Unreadable, Call}
 use Rattle.config.specs.declared.Config.{Config}
-use Rattle.config.specs.Ranges.{off}
 use Rattle.decision.specs.Decision as calls
-use Rattle.decision.specs.declared.state.Traffic.{Traffic}
 use Rattle.frames.specs.Frames.{framed}
 use Rattle.pdu.specs.Fields.{Fields}
-use Rattle.pdu.specs.Pdu.{frameOf, putByte}
+use Rattle.pdu.specs.Pdu.{frameOf}
 use Rattle.print.specs.Print.{decimal}
 use Rattle.report.specs.Report.{changeWord, dashed, frameText, headText, letterOf, lineMost, lineText, notesText, piece, wordOf}
 use Rattle.report.proofs.Line.{length-line}
@@ -29,43 +27,12 @@ use Rattle.text.specs.Blocks.{wholeLen, wholeLines}
 use Rattle.text.specs.Lines.{before, lineFeed, linesOf}
 use Rattle.text.specs.Runs.{outs}
 use Rattle.dispatch.specs.Calls.{callOf, carriedOutBy}
-use Rattle.trace.specs.declared.Phase.{Phase}
-use Rattle.trace.specs.declared.Phase.the-variants.{First, Second, Running, Ended}
-use Rattle.trace.specs.declared.Run.{Run}
-use Rattle.trace.specs.Trace.{
-  bareText,
-  begun,
-  behind,
-  broken,
-  called,
-  counted,
-  digitOf,
-  doing,
-  ending,
-  endingIn,
-  firstLine,
-  following,
-  frameMost,
-  holding,
-  isRunning,
-  laterLine,
-  lineIn,
-  linesFrom,
-  outcome,
-  partialLine,
-  passed,
-  printedFrom,
-  quiet,
-  readingOf,
-  repliedWith,
-  replyText,
-  room,
-  secondLine,
-  sentBytes,
-  stepOf,
-  textOf,
-  unread,
-}
+use Rattle.replay.proofs.Laws.{sent-le}
+use Rattle.replay.specs.declared.Phase.{Phase}
+use Rattle.replay.specs.declared.Phase.the-variants.{First, Second, Running, Ended}
+use Rattle.replay.specs.declared.Run.{Run}
+use Rattle.replay.specs.Replay.{bareText, called, counted, digitOf, doing, frameMost, laterLine, outcome, passed, quiet, readingOf, repliedWith, replyText, sentBytes, unread}
+use Rattle.trace.specs.Trace.{begun, behind, broken, ending, endingIn, firstLine, following, holding, isRunning, lineIn, linesFrom, partialLine, printedFrom, room, secondLine, stepOf, textOf}
 
 -- ---- the frame
 
@@ -87,10 +54,6 @@ after-length ch x frame = by-sent (replied ch x .sent)
         → length (cond t (framed (ch .own .config) (trafficMoved (ch .own) x) (ch .own .requests) (ch .own .user) frame) frame) ≡ length frame
     by-sent true = frame-length _ _ frame
     by-sent false = refl
-
-pub sent-le : (sent : Bool) (n : ℕ) (frame : List ℕ) → length (sentBytes sent n frame) ≤ length frame
-unfolding sentBytes
-sent-le sent n frame = rw length-take (omega arith)
 
 -- ---- lines
 

@@ -2,38 +2,17 @@
 use mathlib.Core.Path.{_≡_, refl, sym, subst, ap, _∙_}
 use mathlib.Core.Bool.{true, false≢true}
 use mathlib.Core.List.{List, [], _∷_}
-use Prim.Native.Nat.{ℕ, _≤_}
-use native.Mathlib.Omega.{arith}
+use Prim.Native.Nat.{ℕ}
 use Rattle.answers.specs.declared.Answer.{Answer}
-use Rattle.answers.specs.declared.Answer.the-variants.{Done, Unsound, Rule, State, Passive, Length, PnOff}
-use Rattle.answers.specs.Answers.{numberOf}
 use Rattle.commands.specs.declared.Asked.{Asked}
-use Rattle.commands.specs.declared.Asked.the-variants.{Unreadable, Call}
 use Rattle.print.proofs.Wrote.{Left, left-start, left-went, left-rest, then, wrote-none}
 use Rattle.text.specs.Runs.{after, outs}
-use Rattle.trace.specs.declared.Phase.{Phase}
-use Rattle.trace.specs.declared.Phase.the-variants.{First, Second, Running, Ended}
-use Rattle.trace.specs.declared.Run.{Run}
-use Rattle.trace.specs.declared.Step.{Step}
-use Rattle.trace.specs.Trace.{
-  Gives,
-  Outcome,
-  behind,
-  called,
-  doing,
-  isRunning,
-  laterLine,
-  lineIn,
-  lineOf,
-  linesFrom,
-  passed,
-  readingOf,
-  repliedWith,
-  runOf,
-  stepOf,
-  textOf,
-  unread,
-}
+use Rattle.replay.specs.declared.Phase.{Phase}
+use Rattle.replay.specs.declared.Phase.the-variants.{First, Second, Running, Ended}
+use Rattle.replay.specs.declared.Run.{Run}
+use Rattle.replay.specs.declared.Step.{Step}
+use Rattle.replay.specs.Replay.{Gives, Outcome, runOf}
+use Rattle.trace.specs.Trace.{behind, isRunning, lineIn, lineOf, linesFrom, stepOf, textOf}
 
 pub gives-then : {o p : Outcome} {l m n : List ℕ} {i : ℕ} {s t : Step} → Gives o l i m s → Gives p m (s .at) n t → Gives (behind o p) l i n t
 gives-then v w = record { run = w .run; text = then (v .text) (w .text) }
@@ -78,15 +57,6 @@ going-end {o} {r} {all} {k} {l} {i} {p} v = going-rest v (record { run = refl; t
 
 -- ---- a run in its calls
 
--- a line behind the configuration does not look at the phase
-pub later-running : (run : Run) (l : List ℕ) → laterLine (runOf Running (run .next) (run .channel)) l ≡ laterLine run l
-unfolding laterLine called repliedWith unread passed
-later-running run l = by-asked (readingOf l .asked)
-  where
-    by-asked : (a : Asked) → doing (runOf Running (run .next) (run .channel)) a (readingOf l .bytes) ≡ doing run a (readingOf l .bytes)
-    by-asked Unreadable = refl
-    by-asked (Call k) = refl
-
 -- a phase that tests as running is
 pub running-true : (p : Phase) → isRunning p ≡ true → p ≡ Running
 running-true First e = absurd (false≢true e)
@@ -100,13 +70,3 @@ pub gives-running : (run : Run) (ls : List (List ℕ)) {k l : List ℕ} {i : ℕ
     → Gives (linesFrom run ls) k i l s
 gives-running run ls {k} {l} {i} {s} e g =
     subst (λ (p : Phase). Gives (linesFrom (runOf p (run .next) (run .channel)) ls) k i l s) (sym e) g
-
--- an answer's number has one digit
-pub number-le : (a : Answer) → numberOf a ≤ 6
-number-le Done = omega arith
-number-le Unsound = omega arith
-number-le (Rule k) = omega arith
-number-le State = omega arith
-number-le Passive = omega arith
-number-le Length = omega arith
-number-le PnOff = omega arith

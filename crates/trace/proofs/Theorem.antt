@@ -1,18 +1,16 @@
 -- The claims of specs/Claims hold. Assumes nothing.
-use mathlib.Core.Path.{_≡_, refl, sym, ap, _∙_}
-use mathlib.Core.Bool.{Bool, true, false, cond}
+use mathlib.Core.Path.{_≡_, refl, ap, _∙_}
 use mathlib.Core.List.{List, [], _∷_, _++_, append-assoc}
 use Prim.Native.Nat.{ℕ}
 use native.Mathlib.Omega.{arith}
-use Rattle.settings.specs.Settings.{readConfig}
 use Rattle.sleep.proofs.Theorem.{every-channel-sleeps}
 use Rattle.text.specs.Blocks.{keptOf, wholeLines}
-use Rattle.text.specs.Runs.{after, afterBlocks, joined, outsBlocks}
+use Rattle.text.specs.Runs.{after, afterBlocks, outsBlocks}
 use Rattle.text.proofs.Blocks.{after-blocks, outs-blocks}
-use Rattle.trace.specs.declared.Phase.the-variants.{Running}
-use Rattle.trace.specs.declared.Run.{Run}
-use Rattle.trace.specs.Claims.{EveryCutPrints, EveryLineIsCut, EveryRunReaches, Reaches, printedOver}
-use Rattle.trace.specs.Trace.{Outcome, ending, holding, linesFrom, printedFrom, start, stepOf, textOf}
+use Rattle.replay.specs.declared.Run.{Run}
+use Rattle.trace.specs.Claims.{EveryCutPrints, EveryLineIsCut, EveryRunReaches, printedOver}
+use Rattle.replay.specs.Replay.{Outcome}
+use Rattle.trace.specs.Trace.{ending, holding, linesFrom, printedFrom, start, stepOf, textOf}
 use Rattle.trace.proofs.Cut.{line-cut}
 use Rattle.trace.proofs.Reached.{first-waits, reached-from}
 

@@ -13,9 +13,10 @@ use Rattle.sleep.specs.Sleep.{ChannelSleeps, reached}
 use Rattle.text.specs.Blocks.{cut, keptOf, wholeLines}
 use Rattle.text.specs.Runs.{after, joined}
 use Rattle.dispatch.specs.Calls.{callOf}
-use Rattle.trace.specs.declared.Phase.the-variants.{Running}
-use Rattle.trace.specs.declared.Run.{Run}
-use Rattle.trace.specs.Trace.{frameMost, lineOf, linesFrom, printed, printedFrom, readingOf, start, stepOf}
+use Rattle.replay.specs.declared.Phase.the-variants.{Running}
+use Rattle.replay.specs.declared.Run.{Run}
+use Rattle.replay.specs.Replay.{frameMost, readingOf}
+use Rattle.trace.specs.Trace.{lineOf, linesFrom, printed, printedFrom, start, stepOf}
 
 -- ---- the calls of a trace
 

@@ -1,7 +1,7 @@
 -- `bits::load_where` meets its contract: the first `i` timers are loaded where their bit stands in both. Assumes nothing.
 use mathlib.Core.Path.{_≡_, refl}
 use mathlib.Core.Bool.{cond, _&&_}
-use Prim.Native.Nat.{_-_, _*_, _≤_, min}
+use Prim.Native.Nat.{_-_, _*_, min}
 use native.Mathlib.Omega.{arith}
 use borrow.Author.Needs.{needs}
 use lib.ListN.{length, length-set}

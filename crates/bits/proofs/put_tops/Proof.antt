@@ -1,5 +1,5 @@
 -- `bits::put_tops` meets its contract: the first `i` places hold their tops. Assumes nothing.
-use mathlib.Core.Path.{_≡_, refl}
+use mathlib.Core.Path.{refl}
 use Prim.Native.Nat.{_-_}
 use native.Mathlib.Omega.{arith}
 use borrow.Author.Needs.{needs}

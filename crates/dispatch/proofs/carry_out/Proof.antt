@@ -1,5 +1,5 @@
 -- `dispatch::carry_out` meets its contract. Assumes nothing.
-use mathlib.Core.Path.{_≡_, refl}
+use mathlib.Core.Path.{refl}
 use borrow.Author.Needs.{needs}
 use Rattle.channel.specs.Channel.{tickedBy}
 use Rattle.dispatch.specs.Calls.{carriedOutBy}

@@ -1,6 +1,5 @@
 -- `soundness::sound` meets its contract. Assumes nothing.
 use native.Mathlib.Omega.{arith}
-use borrow.Author.Needs.{needs}
 use lib.ListN.{replicate}
 use Rattle.soundness.proofs.Alike.{sound-alike}
 use Rattle.soundness.proofs.sound.Statement.{statement}

@@ -1,7 +1,7 @@
 -- `tick::main_function_in_place` meets its contract: the answer, then steps a to d and f, then the tables and the
 -- frame. Assumes nothing.
 use mathlib.Core.Path.{_≡_, sym, _∙_}
-use mathlib.Core.Bool.{true, false}
+use mathlib.Core.Bool.{true}
 use borrow.Author.Needs.{needs}
 use lib.ListN.{length}
 use Rattle.channel.specs.declared.state.Channel.{Channel}

@@ -1,7 +1,6 @@
 -- `trace::first_line` meets its contract. Assumes nothing.
 use native.Mathlib.Omega.{arith}
 use borrow.Author.Needs.{needs}
-use mathlib.Core.Path.{sym, ap, _∙_}
 use Rattle.print.proofs.Wrote.{wrote-none}
 use Rattle.trace.specs.Trace.{firstLine}
 use Rattle.trace.proofs.first_line.Statement.{statement}

@@ -1,5 +1,5 @@
 -- `trace::passed` meets its contract. Assumes nothing.
-use Rattle.trace.specs.Trace.{passed}
+use Rattle.replay.specs.Replay.{passed}
 use Rattle.trace.proofs.passed.Statement.{statement}
 use Rattle.trace.proofs.passed.Tie as tie
 

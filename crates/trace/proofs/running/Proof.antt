@@ -9,7 +9,8 @@ use Rattle.soundness.specs.Sound.{soundOf}
 use Rattle.soundness.proofs.Alike.{sound-alike}
 use Rattle.text.specs.Lines.{lineFeed, linesOf, until}
 use Rattle.text.proofs.Lines.{lines-at, lines-none, span-line, span-end}
-use Rattle.trace.specs.Trace.{lineIn, room, runIn}
+use Rattle.replay.specs.Replay.{runIn}
+use Rattle.trace.specs.Trace.{lineIn, room}
 use Rattle.trace.proofs.Room.{line-le}
 use Rattle.trace.proofs.Steps.{Going, going-start, going-on, going-end, gives-running}
 use Rattle.trace.proofs.running.Statement.{statement}

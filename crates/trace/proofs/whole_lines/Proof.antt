@@ -3,7 +3,7 @@ use mathlib.Core.Path.{sym}
 use Prim.Native.Nat.{_≤_}
 use native.Mathlib.Omega.{arith}
 use borrow.Author.Needs.{needs}
-use lib.ListN.{length, take, length-take}
+use lib.ListN.{length}
 use lib.Seq.{length-take-le}
 use Rattle.text.proofs.Whole.{whole-le}
 use Rattle.trace.proofs.whole_lines.Statement.{statement}

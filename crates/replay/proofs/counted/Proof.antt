@@ -1,9 +1,9 @@
--- `trace::counted` meets its contract. Assumes nothing.
+-- `replay::counted` meets its contract. Assumes nothing.
 use borrow.Author.Needs.{needs}
 use borrow.Author.Tests.{lt-ltb, le-ltb}
-use Rattle.trace.specs.Trace.{counted}
-use Rattle.trace.proofs.counted.Statement.{statement}
-use Rattle.trace.proofs.counted.Tie as tie
+use Rattle.replay.specs.Replay.{counted}
+use Rattle.replay.proofs.counted.Statement.{statement}
+use Rattle.replay.proofs.counted.Tie as tie
 
 returns : tie.Need-returns
 unfolding counted

@@ -1,10 +1,10 @@
--- `trace::later_line_in_place` meets its contract. Assumes nothing.
+-- `replay::later_line_in_place` meets its contract. Assumes nothing.
 use mathlib.Core.Path.{refl}
 use native.Mathlib.Omega.{arith}
 use borrow.Author.Needs.{needs}
-use Rattle.trace.specs.Trace.{laterLine, passed, unread}
-use Rattle.trace.proofs.later_line_in_place.Statement.{statement}
-use Rattle.trace.proofs.later_line_in_place.Tie as tie
+use Rattle.replay.specs.Replay.{laterLine, passed, unread}
+use Rattle.replay.proofs.later_line_in_place.Statement.{statement}
+use Rattle.replay.proofs.later_line_in_place.Tie as tie
 
 returns : tie.Need-returns
 unfolding laterLine

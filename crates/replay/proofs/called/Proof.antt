@@ -1,12 +1,12 @@
--- `trace::called` meets its contract. Assumes nothing.
+-- `replay::called` meets its contract. Assumes nothing.
 use mathlib.Core.Path.{refl, ap}
 use lib.ListN.{length}
 use native.Mathlib.Omega.{arith}
 use borrow.Author.Needs.{needs}
-use Rattle.trace.specs.Trace.{called, repliedWith, replyText}
-use Rattle.trace.proofs.Room.{sent-le}
-use Rattle.trace.proofs.called.Statement.{statement}
-use Rattle.trace.proofs.called.Tie as tie
+use Rattle.replay.specs.Replay.{called, repliedWith, replyText}
+use Rattle.replay.proofs.Laws.{sent-le}
+use Rattle.replay.proofs.called.Statement.{statement}
+use Rattle.replay.proofs.called.Tie as tie
 
 returns : tie.Need-returns
 unfolding called repliedWith replyText

@@ -1,9 +1,9 @@
--- `trace::later_line` meets its contract. Assumes nothing.
+-- `replay::later_line` meets its contract. Assumes nothing.
 use native.Mathlib.Omega.{arith}
 use borrow.Author.Needs.{needs}
-use Rattle.trace.proofs.Steps.{later-running}
-use Rattle.trace.proofs.later_line.Statement.{statement}
-use Rattle.trace.proofs.later_line.Tie as tie
+use Rattle.replay.proofs.Laws.{later-running}
+use Rattle.replay.proofs.later_line.Statement.{statement}
+use Rattle.replay.proofs.later_line.Tie as tie
 
 returns : tie.Need-returns
 returns c =

@@ -1,10 +1,8 @@
--- `trace::digit` meets its contract. Assumes nothing.
+-- `replay::digit` meets its contract. Assumes nothing.
 use native.Mathlib.Omega.{arith}
-use Prim.Native.Nat.{_+_}
-use mathlib.Core.Path.{ap}
-use Rattle.trace.proofs.Steps.{number-le}
-use Rattle.trace.proofs.digit.Statement.{statement}
-use Rattle.trace.proofs.digit.Tie as tie
+use Rattle.replay.proofs.Laws.{number-le}
+use Rattle.replay.proofs.digit.Statement.{statement}
+use Rattle.replay.proofs.digit.Tie as tie
 
 add-result : tie.Need-add-result
 add-result c = omega (arith, number-le (c .before .args .a), c .number .ensures)

@@ -1,9 +1,9 @@
--- `trace::put_bare` meets its contract. Assumes nothing.
+-- `replay::put_bare` meets its contract. Assumes nothing.
 use native.Mathlib.Omega.{arith}
 use borrow.Author.Needs.{needs}
-use Rattle.trace.specs.Trace.{bareText}
-use Rattle.trace.proofs.put_bare.Statement.{statement}
-use Rattle.trace.proofs.put_bare.Tie as tie
+use Rattle.replay.specs.Replay.{bareText}
+use Rattle.replay.proofs.put_bare.Statement.{statement}
+use Rattle.replay.proofs.put_bare.Tie as tie
 
 returns : tie.Need-returns
 unfolding bareText
