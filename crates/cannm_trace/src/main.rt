@@ -12,7 +12,8 @@ ghost use Prim.Native.Nat.{_+_, _*_, _≤_};
 ghost use lib.ListN.{length, take};
 ghost use Rattle.text.specs.Blocks.{keeping, lineMost, wholeLines};
 ghost use Rattle.text.specs.Filled.{filled};
-ghost use Rattle.trace.specs.Trace.{Gives, linesFrom, room};
+ghost use Rattle.replay.specs.Replay.{Gives};
+ghost use Rattle.trace.specs.Trace.{linesFrom, room};
 
 // ---- sizes
 

@@ -3,8 +3,6 @@ use mathlib.Core.Path.{_≡_, refl, sym, subst, ap, _∙_}
 use mathlib.Core.Bool.{true, false≢true}
 use mathlib.Core.List.{List, [], _∷_}
 use Prim.Native.Nat.{ℕ}
-use Rattle.answers.specs.declared.Answer.{Answer}
-use Rattle.commands.specs.declared.Asked.{Asked}
 use Rattle.print.proofs.Wrote.{Left, left-start, left-went, left-rest, then, wrote-none}
 use Rattle.text.specs.Runs.{after, outs}
 use Rattle.replay.specs.declared.Phase.{Phase}

@@ -17,7 +17,7 @@ ghost use Rattle.report.specs.Report.{lineMost};
 ghost use Rattle.text.specs.Blocks.{wholeLines};
 ghost use Rattle.text.specs.Lines.{linesOf};
 ghost use Rattle.replay.specs.declared.Phase.the-variants.{Running};
-ghost use Rattle.replay.specs.Replay.{Gives, counted, frameMost, passed};
+ghost use Rattle.replay.specs.Replay.{Gives, frameMost, passed};
 ghost use Rattle.trace.specs.Trace.{begun, broken, ending, firstLine, following, holding, isRunning, judgedPhase, lineOf, linesFrom, partialLine, printedFrom, room, secondLine, start};
 
 // ---- runs
