@@ -2,7 +2,7 @@
 // any length.
 //
 // Promises: each function is an equation with a definition of specs/, for every length. Leaves to others: what a
-// bit stands for (`pdu`), and when a timer is loaded or counted (`channel`).
+// bit stands for (`pnc`), and when a timer is loaded or counted (`channel`).
 ghost use mathlib.Core.Path.{_≡_};
 ghost use mathlib.Core.Bool.{_&&_};
 ghost use Prim.Native.Nat.{_-_, _*_, _^_, _≤_, _<_, min};

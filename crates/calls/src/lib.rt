@@ -10,7 +10,7 @@ use channel::state::Reply;
 use channel::state::Status;
 use config::Config;
 use decision::Rule;
-use pdu::pnc::VectorBit;
+use pnc::VectorBit;
 ghost use mathlib.Core.Path.{_≡_};
 ghost use Rattle.bits.specs.Bits.{countOnes, lowestIn};
 ghost use Rattle.decision.specs.Decision.{confirmPnAvailability, disableCommunication, enableCommunication, networkRelease, networkRequest, passiveStartUp, repeatMessageRequest, txConfirmation};
@@ -166,10 +166,10 @@ fn count_of(v: &[u8; 7]) -> u32
 fn lowest_of(c: Config, v: &[u8; 7]) -> u32
     ensures { λ r. ⌜ r ≡ lowestPnc c (lowestIn (now (v .entry))) ⌝ }
 {
-    let range = pdu::pnc::range_of(c);
+    let range = pnc::range_of(c);
     let k = bits::lowest_one(v);
     match k {
-        Lowest::At(b) => pdu::pnc::number_or_zero(VectorBit(b), range),
+        Lowest::At(b) => pnc::number_or_zero(VectorBit(b), range),
         Lowest::Nowhere => 0,
     }
 }

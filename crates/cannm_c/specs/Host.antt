@@ -10,7 +10,7 @@ use Rattle.ticks.specs.declared.Conversion.{Conversion}
 use Rattle.ticks.specs.Ticks.{conversionOf}
 use Rattle.config.specs.declared.Layout.{Layout}
 use Rattle.pdu.specs.Pdu.{Taken, headerReading}
-use Rattle.pdu.specs.Filter.{verdictOf, verdictAnswer, verdictValue}
+use Rattle.filter.specs.Filter.{verdictOf, verdictAnswer, verdictValue}
 use Rattle.cannm_c.specs.declared.TicksResult.{TicksResult}
 use Rattle.cannm_c.specs.declared.FilterResult.{FilterResult}
 use Rattle.cannm_c.specs.declared.HeaderResult.{HeaderResult}

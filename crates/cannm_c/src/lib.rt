@@ -58,10 +58,10 @@ pub extern "C" fn cannm_ticks(period: u32, ms: u32) -> TicksResult
 pub extern "C" fn cannm_pn_filter(awake: u32, cbv: u32, pn: &[u8], mask: &[u8]) -> FilterResult
     ensures { λ r. ⌜ r ≡ decidedFor awake cbv (now (pn .entry)) (now (mask .entry)) ⌝ }
 {
-    let v = pdu::filter::decide(awake != 0, cbv, pn, mask);
+    let v = filter::decide(awake != 0, cbv, pn, mask);
     FilterResult {
-        answer: answers::number(pdu::filter::answer(v)) as u32,
-        keep: pdu::filter::value(v) as u32,
+        answer: answers::number(filter::answer(v)) as u32,
+        keep: filter::value(v) as u32,
     }
 }
 

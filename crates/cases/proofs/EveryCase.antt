@@ -31,7 +31,7 @@ use Rattle.config.specs.Rules.{
   pnTime,
   pnAbsent,
 }
-use Rattle.pdu.specs.Filter.{verdictOf, keeps}
+use Rattle.filter.specs.Filter.{verdictOf, keeps}
 use Rattle.bits.specs.Timers.{allWithin, countedDown, loadedWhere, vectorsDiffer}
 use Rattle.decision.specs.Decision.{ruleAt, table}
 use Rattle.modes.specs.Mode.{

@@ -11,8 +11,8 @@ use Rattle.config.specs.declared.Layout.{Layout}
 use Rattle.config.specs.Ranges.{off}
 use Rattle.config.specs.Rules.{firstBroken}
 use Rattle.answers.specs.Answers.{numberOf}
-use Rattle.pdu.specs.declared.filter.Verdict.{Verdict}
-use Rattle.pdu.specs.Filter.{verdictOf, verdictAnswer, verdictValue}
+use Rattle.filter.specs.declared.Verdict.{Verdict}
+use Rattle.filter.specs.Filter.{verdictOf, verdictAnswer, verdictValue}
 use Rattle.decision.specs.declared.state.Note.{Note}
 use Rattle.decision.specs.declared.state.Note.the-variants.{
   Nothing,

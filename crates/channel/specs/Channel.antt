@@ -11,7 +11,7 @@ use Rattle.bits.specs.declared.Lowest.{Lowest}
 use Rattle.bits.specs.declared.Lowest.the-variants.{At, Nowhere}
 use Rattle.bits.specs.Bits.{countOnes, lowestIn}
 use Rattle.bits.specs.Timers.{allWithin, countedDown, vectorByte, vectorsDiffer}
-use Rattle.pdu.specs.Pnc.{numberIn, numberOrZero, rangeOf}
+use Rattle.pnc.specs.Pnc.{numberIn, numberOrZero, rangeOf}
 use Rattle.config.specs.declared.Config.{Config}
 use Rattle.config.specs.declared.Ticks.{Ticks}
 use Rattle.config.specs.Ranges.{userLengthOf}

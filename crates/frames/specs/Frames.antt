@@ -9,7 +9,7 @@ use Rattle.config.specs.declared.Config.{Config}
 use Rattle.config.specs.Ranges.{userLengthOf}
 use Rattle.pdu.specs.Fields.{fields}
 use Rattle.pdu.specs.Pdu.{byteAt, frameOf}
-use Rattle.pdu.specs.Filter.{informs, keeps}
+use Rattle.filter.specs.Filter.{informs, keeps}
 use Rattle.decision.specs.declared.state.Traffic.{Traffic}
 
 -- the control bit vector; with none all its bits read 0

@@ -1,7 +1,7 @@
 // What a channel takes from a PDU, and puts into one.
 //
 // Promises: each function is a definition of specs/; lent bytes are given whole. Leaves to others: where a field stands
-// (`pdu`), and when a frame is sent (`traffic`).
+// (`pdu`), which PN bytes keep a PDU (`filter`), and when a frame is sent (`traffic`).
 use config::Config;
 use decision::state::Traffic;
 ghost use mathlib.Core.Path.{_≡_};
@@ -9,7 +9,7 @@ ghost use mathlib.Core.Bool.{cond};
 ghost use Prim.Native.Nat.{_≤_};
 ghost use lib.Seq.{sets};
 ghost use Rattle.bits.specs.Timers.{countedDown, loadedWhere, vectorsDiffer};
-ghost use Rattle.pdu.specs.Filter.{keeps};
+ghost use Rattle.filter.specs.Filter.{keeps};
 ghost use Rattle.frames.specs.Frames.{accepted, asksRepeat, cbvSent, framed, loadedBy, sentLoaded};
 
 // ---- tables and bytes at their lengths
@@ -41,7 +41,7 @@ pub fn store(bytes: &[u8], dst: &mut [u8; 8])
 fn keeps<'a>(awake: bool, cbv: u32, pn: &'a [u8], mask: &'a [u8; 8]) -> bool
     ensures { λ r. ⌜ r ≡ keeps awake cbv (now (pn .entry)) (now (mask .entry)) ⌝ }
 {
-    pdu::filter::keeps(awake, cbv, pn, mask)
+    filter::keeps(awake, cbv, pn, mask)
 }
 
 // ---- a PDU received
@@ -72,7 +72,7 @@ pub fn load_heard(c: Config, reset: u16, pdu: &[u8], timers: &mut [u16; 56]) -> 
 {
     let before = *timers;
     let mask = c.pn.mask;
-    if pdu::filter::informs(pdu::byte_at(pdu, c.layout.cbv) as u32) {
+    if filter::informs(pdu::byte_at(pdu, c.layout.cbv) as u32) {
         let pn = pdu::part(pdu, c.pn.start as usize, c.pn.length as usize);
         load(pn, &mask, reset, timers);
         return differ(&before, timers);

@@ -1,5 +1,4 @@
 pub mod Bytes
 pub mod Parts
 pub mod RoundTrip
-pub mod Inverse
 mod Ways

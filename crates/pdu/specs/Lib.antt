@@ -1,5 +1,3 @@
 pub mod Fields
 pub mod Pdu
 pub mod RoundTrip
-pub mod Filter
-pub mod Pnc

@@ -1,9 +1,8 @@
-// The NM PDU: composing it from its fields and reading them back, the partial-network filter's decision, and PNC
-// numbers.
+// The NM PDU: composing it from its fields and reading them back.
 //
 // Promises: every answer and every lent byte, refusals included, for any configuration and any bytes; composing and
-// reading undo each other (proofs/RoundTrip). Leaves to others: which values a channel sends and what it does
-// with those it hears (`channel`).
+// reading undo each other (proofs/RoundTrip). Leaves to others: what the PN bytes say (`filter`, `pnc`), which values a
+// channel sends and what it does with those it hears (`channel`).
 use answers::Answer;
 use config::Config;
 use config::Layout;
@@ -15,9 +14,6 @@ ghost use lib.ListN.{length, getD, set, take, drop};
 ghost use lib.Seq.{sets};
 ghost use Rattle.pdu.specs.Fields.{fields};
 ghost use Rattle.pdu.specs.Pdu.{byteAt, composed, composing, frameOf, headerReading, ofLengths, putByte, reading, taken};
-
-pub mod filter;
-pub mod pnc;
 
 // ---- bytes in their places
 

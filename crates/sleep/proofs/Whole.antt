@@ -14,7 +14,7 @@ use Rattle.config.specs.declared.Config.{Config}
 use Rattle.config.specs.declared.Ticks.{Ticks}
 use Rattle.config.specs.Rules.{firstBroken, ticksFor}
 use Rattle.config.proofs.Passes.{Passes, passes}
-use Rattle.pdu.specs.Filter.{informs}
+use Rattle.filter.specs.Filter.{informs}
 use Rattle.decision.specs.declared.state.State.{State}
 use Rattle.decision.specs.declared.state.State.the-variants.{
   BusSleep,

@@ -5,11 +5,11 @@ use config::Config;
 use config::Layout;
 use config::Partial;
 use config::Times;
-use pdu::pnc::BitOf;
-use pdu::pnc::NumberOf;
-use pdu::pnc::PnRange;
-use pdu::pnc::PncNumber;
-use pdu::pnc::VectorBit;
+use pnc::BitOf;
+use pnc::NumberOf;
+use pnc::PnRange;
+use pnc::PncNumber;
+use pnc::VectorBit;
 
 pub mod exchange;
 
