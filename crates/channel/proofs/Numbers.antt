@@ -21,26 +21,7 @@ use Rattle.decision.specs.Decision.{
   callNumber,
 }
 use Rattle.decision.specs.Refusals.{refusal, refusedPassive, refusedPnOff}
-use Rattle.channel.specs.Channel.{
-  againFor,
-  answerOf,
-  carriedOut,
-  eiraAfter,
-  eraAfter,
-  heardBy,
-  isTaken,
-  isTick,
-  modeAfter,
-  notesAfter,
-  ownAfter,
-  replied,
-  requestsAfter,
-  ruleFor,
-  sends,
-  trafficAfter,
-  trafficMoved,
-  userAfter,
-}
+use Rattle.channel.specs.Channel.{againFor, answerOf, carriedOut, eiraAfter, eraAfter, heardBy, modeAfter, notesAfter, ownAfter, replied, requestsAfter, ruleFor, sends, trafficAfter, trafficMoved, userAfter}
 use Rattle.channel.specs.Moved.{finished, movedBy, movedTo, plainly}
 
 -- the calls that change no vector and no byte; a bad confirmation is not heeded

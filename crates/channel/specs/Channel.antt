@@ -1,20 +1,19 @@
 -- The channel: the fresh one, what is sound, and what every call gives. Assumes nothing.
 use Prim.Native.Nat.{ℕ}
-use mathlib.Core.Bool.{Bool, true, false, cond, not, _&&_, _||_}
+use mathlib.Core.Bool.{Bool, true, false, cond, not, _&&_}
 use mathlib.Core.List.{List, [], _∷_}
 use lib.Dec.{eqb}
-use lib.ListN.{length, take, replicate}
+use lib.ListN.{length, replicate}
 use lib.Seq.{sets}
 use Rattle.answers.specs.declared.Answer.{Answer}
 use Rattle.answers.specs.declared.Answer.the-variants.{Done, Rule}
 use Rattle.bits.specs.declared.Lowest.{Lowest}
 use Rattle.bits.specs.declared.Lowest.the-variants.{At, Nowhere}
 use Rattle.bits.specs.Bits.{countOnes, lowestIn}
-use Rattle.bits.specs.Timers.{allWithin, countedDown, vectorByte, vectorsDiffer}
+use Rattle.bits.specs.Timers.{countedDown, vectorByte, vectorsDiffer}
 use Rattle.pnc.specs.Pnc.{numberIn, numberOrZero, rangeOf}
 use Rattle.config.specs.declared.Config.{Config}
 use Rattle.config.specs.declared.Ticks.{Ticks}
-use Rattle.config.specs.Ranges.{userLengthOf}
 use Rattle.config.specs.Rules.{firstBroken, ticksFor}
 use Rattle.decision.specs.declared.state.State.the-variants.{BusSleep}
 use Rattle.decision.specs.declared.state.Mode.{Mode}
@@ -30,24 +29,7 @@ use Rattle.channel.specs.declared.state.Status.{Status}
 use Rattle.decision.specs.State.{stateNumber}
 use Rattle.decision.specs.declared.Rule
 use Rattle.decision.specs.declared.Rule.the-variants.{Keep}
-use Rattle.decision.specs.Decision.{
-  Call,
-  networkRequest,
-  networkRelease,
-  passiveStartUp,
-  repeatMessageRequest,
-  disableCommunication,
-  enableCommunication,
-  txConfirmation,
-  rxIndication,
-  confirmPnAvailability,
-  setUserData,
-  setPnRequests,
-  status,
-  mainFunction,
-  callNumber,
-  ruleOf,
-}
+use Rattle.decision.specs.Decision.{Call, networkRequest, networkRelease, passiveStartUp, repeatMessageRequest, disableCommunication, enableCommunication, txConfirmation, rxIndication, confirmPnAvailability, setUserData, setPnRequests, status, mainFunction, ruleOf}
 use Rattle.modes.specs.Mode.{mode, modeBy}
 use Rattle.traffic.specs.Traffic.{traffic, trafficBy, setupOf, framing, isDue}
 use Rattle.notes.specs.Notes.{firstBy, secondBy}

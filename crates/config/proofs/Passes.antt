@@ -1,35 +1,10 @@
 -- What it says of a configuration that no rule is broken: each rule by itself, and its PDU's byte ranges. Assumes nothing.
 use mathlib.Core.Path.{_≡_, refl}
-use mathlib.Core.Bool.{Bool, true, false, cond, not, _&&_, _||_}
-use mathlib.Core.Logic.{_⊎_, inl, inr, ⊎-elim}
-use Prim.Native.Nat.{ℕ, suc, _+_, _≤_, _<_}
+use mathlib.Core.Bool.{Bool, true, false}
+use Prim.Native.Nat.{ℕ, suc}
 use native.Mathlib.Omega.{arith}
-use lib.Dec.{eqb, leb}
-use borrow.Author.Tests.{eqb-true, eqb-false, leb-true, not-true}
-use Rattle.choice.proofs.Tests.{and-left, and-right}
 use Rattle.config.specs.declared.Config.{Config}
-use Rattle.config.specs.declared.Layout.{Layout}
-use Rattle.config.specs.Ranges.{off, headerLength}
-use Rattle.config.specs.Rules.{
-  ticksFor,
-  rule1,
-  rule2,
-  rule3,
-  rule4,
-  rule5,
-  rule6,
-  rule7,
-  rule8,
-  pnRange,
-  pnTime,
-  pnAbsent,
-  placed,
-  behind,
-  unless,
-  firstBroken,
-  firstBrokenBy,
-  firstBrokenOfHeader,
-}
+use Rattle.config.specs.Rules.{ticksFor, rule1, rule2, rule3, rule4, rule5, rule6, rule7, rule8, unless, firstBroken, firstBrokenBy}
 
 -- every rule is kept
 pub record Passes (c : Config) : Type 0 where

@@ -1,6 +1,6 @@
 -- The eight configuration rules, in the order in which they are judged. Assumes nothing.
 use Prim.Native.Nat.{ℕ, _+_}
-use mathlib.Core.Bool.{Bool, true, false, cond, not, _&&_, _||_}
+use mathlib.Core.Bool.{Bool, cond, not, _&&_, _||_}
 use lib.Dec.{leb, ltb, eqb}
 use Rattle.ticks.specs.Ticks.{conversionOf}
 use Rattle.config.specs.declared.Config.{Config}

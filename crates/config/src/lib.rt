@@ -4,9 +4,9 @@
 // Promises: the number of the first broken rule, or 0, for every configuration whatever its numbers. Leaves to
 // others: what the bytes mean (`pdu`) and what the times do (`channel`).
 ghost use mathlib.Core.Path.{_≡_};
-ghost use mathlib.Core.Bool.{Bool, true, false, cond, _&&_, _||_};
-ghost use Prim.Native.Nat.{_+_, _-_, _≤_, _<_};
-ghost use lib.Dec.{leb, ltb, eqb};
+ghost use mathlib.Core.Bool.{false};
+ghost use Prim.Native.Nat.{_+_, _-_, _<_};
+ghost use lib.Dec.{leb, eqb};
 ghost use Rattle.config.specs.Bounds.{within};
 ghost use Rattle.config.specs.Ranges.{off, bytesOf, headerLength, userStartOf, userLengthOf};
 ghost use Rattle.config.specs.Rules.{

@@ -1,5 +1,5 @@
 -- Laws of the states. Assumes nothing.
-use Prim.Native.Nat.{ℕ, _≤_}
+use Prim.Native.Nat.{_≤_}
 use native.Mathlib.Omega.{arith}
 use Rattle.decision.specs.declared.state.State.{State}
 use Rattle.decision.specs.declared.state.State.the-variants.{

@@ -7,8 +7,7 @@ use decision::Rule;
 use decision::state::Mode;
 use decision::state::State;
 ghost use mathlib.Core.Path.{_≡_};
-ghost use mathlib.Core.Bool.{true, false, cond};
-ghost use lib.Dec.{leb, eqb};
+ghost use mathlib.Core.Bool.{true, false};
 ghost use Rattle.modes.specs.Mode.{
   enabled,
   enterNetwork,

@@ -1,7 +1,7 @@
 -- A PNC's number and its place in the vector. Assumes nothing.
 use Prim.Native.Nat.{ℕ, _+_, _-_, _*_, _/_, _%_}
 use mathlib.Core.Path.{_≡_}
-use mathlib.Core.Bool.{Bool, cond, _&&_}
+use mathlib.Core.Bool.{cond, _&&_}
 use lib.Dec.{leb, ltb}
 use Rattle.config.specs.declared.Config.{Config}
 use Rattle.pnc.specs.declared.PncNumber.{PncNumber}

@@ -1,7 +1,7 @@
 -- k counts what its name says: the ticks answered 0 since the last keep-awake, none before the first. Assumes nothing.
-use Prim.Native.Nat.{ℕ, zero, suc, _+_, _-_, _≤_, _<_}
+use Prim.Native.Nat.{ℕ, _+_, _-_}
 use mathlib.Core.Path.{_≡_, refl, sym, ap}
-use mathlib.Core.Bool.{Bool, true, false, cond, not, _&&_, _||_}
+use mathlib.Core.Bool.{Bool, true, false, cond, _&&_}
 use mathlib.Core.List.{List, [], _∷_, _++_}
 use native.Mathlib.Omega.{arith}
 use Rattle.config.specs.declared.Config.{Config}
@@ -9,22 +9,7 @@ use Rattle.config.specs.declared.Ticks.{Ticks}
 use Rattle.decision.specs.Decision.{Call}
 use Rattle.decision.specs.Refusals.{refusal, isDone}
 use Rattle.channel.specs.Channel.{isTick}
-use Rattle.sleep.specs.Summary.{
-  Since,
-  none,
-  ago,
-  Summary,
-  summary,
-  blank,
-  below,
-  shown,
-  raised,
-  hits,
-  keepsAwake,
-  turned,
-  summarised,
-  history,
-}
+use Rattle.sleep.specs.Summary.{Since, none, ago, Summary, blank, shown, raised, keepsAwake, turned, summarised, history}
 use Rattle.sleep.specs.Quiet.{countsOne, kept, ticksIn, Unkept}
 use Rattle.sleep.proofs.Simulation.{clash}
 use Rattle.sleep.proofs.Quieting.{history-then}

@@ -1,25 +1,16 @@
 -- The mode alone over whole lists of calls: it stays in step with the summary, and Bus-Sleep is entered in exactly the due ticks.
 -- Assumes nothing.
-use Prim.Native.Nat.{ℕ, zero, suc, _+_, _-_, _≤_, _<_}
+use Prim.Native.Nat.{ℕ, zero, suc, _+_, _-_, _<_}
 use mathlib.Core.Path.{_≡_, refl, sym, ap}
-use mathlib.Core.Bool.{Bool, true, false, cond, not, _&&_, _||_}
-use mathlib.Core.List.{List, [], _∷_, _++_}
+use mathlib.Core.Bool.{Bool, true, false, cond, not}
+use mathlib.Core.List.{List, [], _∷_}
 use mathlib.Core.Logic.{_↔_}
 use native.Mathlib.Omega.{arith}
-use lib.Dec.{ltb, eqb}
-use borrow.Author.Tests.{lt-ltb, le-ltb}
 use Rattle.config.specs.declared.Config.{Config}
 use Rattle.config.specs.declared.Ticks.{Ticks}
 use Rattle.decision.specs.declared.state.State.{State}
-use Rattle.decision.specs.declared.state.State.the-variants.{
-  BusSleep,
-  PrepareBusSleep,
-  RepeatMessage,
-  NormalOperation,
-  ReadySleep,
-}
+use Rattle.decision.specs.declared.state.State.the-variants.{BusSleep}
 use Rattle.decision.specs.declared.state.Mode.{Mode}
-use Rattle.decision.specs.State.{transmits}
 use Rattle.decision.specs.Decision.{
   Call,
   networkRequest,
@@ -37,27 +28,9 @@ use Rattle.decision.specs.Decision.{
   mainFunction,
 }
 use Rattle.modes.specs.Mode.{mode}
-use Rattle.frames.specs.Frames.{accepted}
 use Rattle.decision.specs.Refusals.{refusal, refusedPassive, refusedPnOff, refusedState, refusedLength, firstOf, isDone}
 use Rattle.channel.specs.Channel.{freshMode, isTick, modeAfter}
-use Rattle.sleep.specs.Summary.{
-  Since,
-  none,
-  ago,
-  Summary,
-  summary,
-  blank,
-  networkState,
-  shown,
-  raised,
-  hits,
-  keepsAwake,
-  sinceAfter,
-  sendingAfter,
-  turned,
-  summarised,
-  history,
-}
+use Rattle.sleep.specs.Summary.{Since, none, ago, Summary, summary, blank, networkState, shown, raised, keepsAwake, sinceAfter, sendingAfter, turned, summarised, history}
 use Rattle.sleep.specs.Quiet.{answered}
 use Rattle.sleep.specs.Sleep.{Due}
 use Rattle.sleep.proofs.Simulation.{Fit, Long, Together, asleep, waiting, live, held, shows, keep, clash}

@@ -1,63 +1,25 @@
 -- Every call that is answered 0 keeps the traffic sound. Assumes nothing.
-use Prim.Native.Nat.{ℕ, zero, suc, _+_, _-_, _≤_, _<_}
-use mathlib.Core.Path.{_≡_, refl, sym}
-use mathlib.Core.Bool.{Bool, true, false, cond, not, _&&_, _||_}
+use Prim.Native.Nat.{ℕ, zero, suc, _-_}
+use mathlib.Core.Path.{_≡_, refl}
+use mathlib.Core.Bool.{Bool, true, false}
 use mathlib.Core.List.{List}
 use native.Mathlib.Omega.{arith}
-use lib.Dec.{leb, eqb}
 use borrow.Author.Tests.{lt-leb, ne-eqb}
 use Rattle.config.specs.declared.Config.{Config}
 use Rattle.config.specs.declared.Ticks.{Ticks}
 use Rattle.decision.specs.declared.state.State.{State}
-use Rattle.decision.specs.declared.state.State.the-variants.{
-  BusSleep,
-  PrepareBusSleep,
-  RepeatMessage,
-  NormalOperation,
-  ReadySleep,
-}
+use Rattle.decision.specs.declared.state.State.the-variants.{BusSleep, PrepareBusSleep, NormalOperation, ReadySleep}
 use Rattle.decision.specs.declared.state.Mode.{Mode}
 use Rattle.decision.specs.declared.state.Traffic.{Traffic}
 use Rattle.traffic.specs.declared.Setup.{Setup}
-use Rattle.decision.specs.Decision.{
-  Call,
-  networkRequest,
-  networkRelease,
-  passiveStartUp,
-  repeatMessageRequest,
-  disableCommunication,
-  enableCommunication,
-  txConfirmation,
-  rxIndication,
-  confirmPnAvailability,
-  setUserData,
-  setPnRequests,
-  status,
-  mainFunction,
-  isNotHere,
-  ruleAt,
-  table,
-}
-use Rattle.modes.specs.Mode.{
-  mode,
-  modeBy,
-  enterNetwork,
-  enterRepeat,
-  restart,
-  heard,
-  enabled,
-  nmInRepeatOrNormal,
-  prepared,
-  nmInReady,
-  waitInPrepare,
-  repeatInRepeat,
-}
+use Rattle.decision.specs.Decision.{Call, networkRequest, networkRelease, passiveStartUp, repeatMessageRequest, disableCommunication, enableCommunication, txConfirmation, rxIndication, confirmPnAvailability, setUserData, setPnRequests, status, mainFunction, ruleAt, table}
+use Rattle.modes.specs.Mode.{modeBy, enterNetwork, enterRepeat, restart, heard, enabled, nmInRepeatOrNormal, prepared, nmInReady, waitInPrepare, repeatInRepeat}
 use Rattle.traffic.specs.Traffic.{inReady, inRepeat, setupOf, trafficBy}
 use Rattle.frames.specs.Frames.{accepted, asksRepeat}
 use Rattle.decision.specs.Refusals.{refusedPassive, refusedState}
 use Rattle.channel.specs.Channel.{againFor, modeAfter, ruleFor}
-use Rattle.sleep.specs.Summary.{Since, none, ago, Summary, networkState}
-use Rattle.sleep.proofs.Simulation.{Fit, Together, asleep, waiting, live, held, clash}
+use Rattle.sleep.specs.Summary.{Summary}
+use Rattle.sleep.proofs.Simulation.{Together, asleep, waiting, live, held, clash}
 use Rattle.sleep.proofs.Passing.{Tuned}
 use Rattle.sleep.proofs.Traffic.{
   TrafficOk,

@@ -1,31 +1,18 @@
 -- What the proofs use of a configuration that passes, in ticks. Assumes nothing.
 use Prim.Native.Nat.{ℕ, zero, suc, _≤_, _<_}
-use mathlib.Core.Path.{_≡_, refl, sym}
-use mathlib.Core.Bool.{Bool, true, false, cond, _&&_, _||_}
+use mathlib.Core.Path.{_≡_, refl}
+use mathlib.Core.Bool.{true, _&&_, _||_}
 use mathlib.Core.Logic.{⊎-elim}
 use native.Mathlib.Omega.{arith}
-use lib.Dec.{leb, ltb, eqb}
+use lib.Dec.{leb, eqb}
 use borrow.Author.Tests.{leb-true, ltb-true, eqb-true, le-leb}
 use Rattle.choice.proofs.Tests.{and-left, and-right, or-cases}
 use Rattle.ticks.specs.Ticks.{conversionOf, ticksOf}
 use Rattle.ticks.proofs.Rounding.{some-tick}
 use Rattle.config.specs.declared.Config.{Config}
 use Rattle.config.specs.declared.Ticks.{Ticks}
-use Rattle.config.specs.Bounds.{
-  cycleRow,
-  fastRow,
-  immediateRow,
-  nodeRow,
-  offsetRow,
-  periodRow,
-  remoteRow,
-  repeatRow,
-  resetRow,
-  timeoutRow,
-  waitRow,
-  within,
-}
-use Rattle.config.specs.Rules.{firstBroken, inTicks, rule1, rule2, rule3, rule4, ticksFor, timesWithin}
+use Rattle.config.specs.Bounds.{cycleRow, fastRow, immediateRow, nodeRow, offsetRow, remoteRow, repeatRow, resetRow, timeoutRow, waitRow, within}
+use Rattle.config.specs.Rules.{inTicks, rule1, rule2, rule3, rule4, ticksFor, timesWithin}
 use Rattle.config.proofs.Passes.{Passes, passes}
 use Rattle.sleep.proofs.Simulation.{Fit}
 

@@ -1,12 +1,12 @@
 -- The PN timers stay within the reset time and the mask. Assumes nothing.
 use Prim.Native.Nat.{ℕ, _/_, _<_, _≤_}
-use mathlib.Core.Path.{_≡_, refl, sym, _∙_}
+use mathlib.Core.Path.{_≡_, refl}
 use mathlib.Core.Bool.{Bool, true, false, cond, _&&_}
 use mathlib.Core.List.{List}
 use native.Mathlib.Omega.{arith}
 use lib.Dec.{ltb}
 use lib.ListN.{length, getD, take, length-take}
-use borrow.Author.Tests.{lt-ltb, ltb-false}
+use borrow.Author.Tests.{ltb-false}
 use Rattle.bits.specs.Bits.{bitAt}
 use Rattle.bits.specs.Timers.{allWithin, loadedWhere, topAt}
 use Rattle.bits.proofs.Bits.{bit-past, bit-take}

@@ -1,20 +1,14 @@
 -- A quiet list of calls brings a channel that is released and enabled to Bus-Sleep. Assumes nothing.
-use Prim.Native.Nat.{ℕ, zero, suc, _+_, _-_, _≤_, _<_}
-use mathlib.Core.Path.{_≡_, refl, sym, ap}
+use Prim.Native.Nat.{ℕ, zero, suc, _+_, _-_, _≤_}
+use mathlib.Core.Path.{_≡_, refl}
 use mathlib.Core.Bool.{Bool, true, false, cond, not, _&&_, _||_}
 use mathlib.Core.List.{List, [], _∷_, _++_}
 use native.Mathlib.Omega.{arith}
-use lib.Dec.{ltb, eqb}
-use borrow.Author.Tests.{lt-ltb, le-ltb}
+use lib.Dec.{ltb}
+use borrow.Author.Tests.{le-ltb}
 use Rattle.config.specs.declared.Config.{Config}
 use Rattle.config.specs.declared.Ticks.{Ticks}
-use Rattle.decision.specs.declared.state.State.the-variants.{
-  BusSleep,
-  PrepareBusSleep,
-  RepeatMessage,
-  NormalOperation,
-  ReadySleep,
-}
+use Rattle.decision.specs.declared.state.State.the-variants.{BusSleep, PrepareBusSleep, ReadySleep}
 use Rattle.decision.specs.declared.state.Mode.{Mode}
 use Rattle.decision.specs.State.{transmits}
 use Rattle.decision.specs.Decision.{
@@ -35,22 +29,7 @@ use Rattle.decision.specs.Decision.{
 }
 use Rattle.decision.specs.Refusals.{refusal, isDone}
 use Rattle.channel.specs.Channel.{freshMode, isTick}
-use Rattle.sleep.specs.Summary.{
-  Since,
-  none,
-  ago,
-  Summary,
-  summary,
-  blank,
-  below,
-  shown,
-  raised,
-  hits,
-  keepsAwake,
-  turned,
-  summarised,
-  history,
-}
+use Rattle.sleep.specs.Summary.{Since, none, ago, Summary, summary, blank, shown, raised, hits, turned, summarised, history}
 use Rattle.sleep.specs.Quiet.{loud, answered, Quiet, countsOne, ticksIn}
 use Rattle.sleep.proofs.Simulation.{Fit, Together, asleep, waiting, live, held, clash}
 use Rattle.sleep.proofs.Entering.{modeRun, reached-together, agree, not-network}

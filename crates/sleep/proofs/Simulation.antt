@@ -1,44 +1,17 @@
 -- The simulation: after every call that is answered 0 the channel is in the state that the calls alone show. Assumes nothing.
-use Prim.Native.Nat.{ℕ, zero, suc, _+_, _-_, _≤_, _<_}
-use mathlib.Core.Path.{_≡_, refl, sym, ap, _∙_}
-use mathlib.Core.Bool.{Bool, true, false, cond, not, _&&_, _||_}
-use mathlib.Core.List.{List, [], _∷_}
+use Prim.Native.Nat.{ℕ, zero, suc, _+_, _-_, _≤_}
+use mathlib.Core.Path.{_≡_, refl}
+use mathlib.Core.Bool.{Bool, true, false, cond, not, _||_}
+use mathlib.Core.List.{List}
 use native.Mathlib.Omega.{arith}
-use lib.Dec.{leb, ltb, eqb}
-use borrow.Author.Tests.{lt-ltb, le-ltb, eq-eqb, ne-eqb, lt-leb, le-leb}
-use Rattle.answers.specs.declared.Answer.{Answer}
+use lib.Dec.{leb, eqb}
+use borrow.Author.Tests.{lt-ltb, le-ltb, eq-eqb, ne-eqb, lt-leb}
 use Rattle.config.specs.declared.Config.{Config}
 use Rattle.config.specs.declared.Ticks.{Ticks}
 use Rattle.decision.specs.declared.state.State.{State}
-use Rattle.decision.specs.declared.state.State.the-variants.{
-  BusSleep,
-  PrepareBusSleep,
-  RepeatMessage,
-  NormalOperation,
-  ReadySleep,
-}
+use Rattle.decision.specs.declared.state.State.the-variants.{BusSleep, PrepareBusSleep, RepeatMessage}
 use Rattle.decision.specs.declared.state.Mode.{Mode}
-use Rattle.decision.specs.State.{inNetwork, isPrepare, settled, transmits}
-use Rattle.decision.specs.Decision.{
-  Call,
-  networkRequest,
-  networkRelease,
-  passiveStartUp,
-  repeatMessageRequest,
-  disableCommunication,
-  enableCommunication,
-  txConfirmation,
-  rxIndication,
-  confirmPnAvailability,
-  setUserData,
-  setPnRequests,
-  status,
-  mainFunction,
-  isNotHere,
-  ruleAt,
-  ruleOf,
-  table,
-}
+use Rattle.decision.specs.Decision.{Call, networkRequest, networkRelease, passiveStartUp, repeatMessageRequest, disableCommunication, enableCommunication, txConfirmation, rxIndication, confirmPnAvailability, setUserData, setPnRequests, status, mainFunction, ruleAt, table}
 use Rattle.modes.specs.Mode.{
   mode,
   modeBy,
@@ -54,22 +27,9 @@ use Rattle.modes.specs.Mode.{
   repeatInRepeat,
 }
 use Rattle.frames.specs.Frames.{accepted, asksRepeat}
-use Rattle.decision.specs.Refusals.{refusal, refusedPassive, refusedPnOff, refusedState, refusedLength, firstOf, isDone}
-use Rattle.channel.specs.Channel.{againFor, isTick, modeAfter, ruleFor}
-use Rattle.sleep.specs.Summary.{
-  Since,
-  none,
-  ago,
-  Summary,
-  summary,
-  below,
-  networkState,
-  shown,
-  raised,
-  hits,
-  reenters,
-  turned,
-}
+use Rattle.decision.specs.Refusals.{refusedState}
+use Rattle.channel.specs.Channel.{againFor, modeAfter, ruleFor}
+use Rattle.sleep.specs.Summary.{Since, none, ago, Summary, summary, below, networkState, shown, turned}
 
 -- what the proof uses of a configuration that passes
 pub record Fit (t : Ticks) : Type 0 where

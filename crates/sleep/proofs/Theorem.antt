@@ -1,44 +1,30 @@
 -- In which tick a channel sleeps: the claims of specs/Sleep, for every configuration that passes and every list of calls.
 -- Assumes nothing.
-use Prim.Native.Nat.{ℕ, _+_, _≤_}
-use mathlib.Core.Path.{_≡_, refl, sym}
-use mathlib.Core.Bool.{Bool, true, false, cond}
+use Prim.Native.Nat.{_+_, _≤_}
+use mathlib.Core.Path.{_≡_, refl}
+use mathlib.Core.Bool.{Bool, true, false}
 use mathlib.Core.List.{List, [], _∷_, _++_}
 use mathlib.Core.Logic.{_↔_}
 use native.Mathlib.Omega.{arith}
-use lib.Dec.{ltb}
-use lib.ListN.{take, replicate}
+use lib.ListN.{take}
 use borrow.Author.Tests.{lt-ltb}
 use Rattle.bits.proofs.Timers.{within-zeros}
 use Rattle.config.specs.declared.Config.{Config}
 use Rattle.config.specs.declared.Ticks.{Ticks}
 use Rattle.config.specs.Rules.{firstBroken, ticksFor}
 use Rattle.config.proofs.Passes.{passes}
-use Rattle.decision.specs.declared.state.State.the-variants.{BusSleep}
 use Rattle.decision.specs.declared.state.Mode.{Mode}
 use Rattle.decision.specs.Decision.{Call}
 use Rattle.traffic.specs.Traffic.{setupOf}
 use Rattle.channel.specs.declared.state.Channel.{Channel}
-use Rattle.channel.specs.Channel.{fresh, freshMode, freshTraffic, replied, sound}
-use Rattle.sleep.specs.Summary.{none, Summary, blank, summarised, history}
-use Rattle.sleep.specs.Quiet.{Quiet, ticksIn}
-use Rattle.sleep.specs.Sleep.{
-  Told,
-  deaf,
-  told,
-  Enters,
-  Due,
-  Sleeps,
-  after,
-  reached,
-  ChannelSleeps,
-  EveryChannelSleeps,
-}
+use Rattle.channel.specs.Channel.{fresh, freshMode, freshTraffic, sound}
+use Rattle.sleep.specs.Summary.{none, Summary, blank, history}
+use Rattle.sleep.specs.Sleep.{Told, told, Enters, Due, Sleeps, after, reached, EveryChannelSleeps}
 use Rattle.sleep.proofs.Simulation.{Fit, asleep}
-use Rattle.sleep.proofs.Entering.{Entered, modeStep, modeRun, agree, entered, reached-together}
+use Rattle.sleep.proofs.Entering.{modeStep, modeRun, agree, entered, reached-together}
 use Rattle.sleep.proofs.Quieting
 use Rattle.sleep.proofs.Counting.{since-last, since-never}
-use Rattle.sleep.proofs.Passing.{Tuned, fit, tuned}
+use Rattle.sleep.proofs.Passing.{fit, tuned}
 use Rattle.sleep.proofs.Whole.{Passed, Whole, whole, is-sound, step-whole}
 
 -- ---- the mode over whole lists, in any host

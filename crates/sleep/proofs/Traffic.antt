@@ -1,43 +1,19 @@
 -- The traffic stays sound: message and remote timer, fast count, indication and bits, through every transition rule.
 -- Assumes nothing.
-use Prim.Native.Nat.{ℕ, zero, suc, _+_, _-_, _≤_, _<_}
+use Prim.Native.Nat.{ℕ, _-_, _≤_}
 use mathlib.Core.Path.{_≡_, refl, sym}
-use mathlib.Core.Bool.{Bool, true, false, cond, not, _&&_, _||_}
+use mathlib.Core.Bool.{Bool, true, false, cond, not, _&&_}
 use native.Mathlib.Omega.{arith}
-use lib.Dec.{leb, ltb, eqb}
+use lib.Dec.{leb, ltb}
 use borrow.Author.Tests.{leb-true, leb-false, ltb-true, ltb-false, le-leb, eq-eqb}
 use Rattle.decision.specs.declared.state.State.{State}
-use Rattle.decision.specs.declared.state.State.the-variants.{
-  BusSleep,
-  PrepareBusSleep,
-  RepeatMessage,
-  NormalOperation,
-  ReadySleep,
-}
+use Rattle.decision.specs.declared.state.State.the-variants.{PrepareBusSleep, RepeatMessage, NormalOperation, ReadySleep}
 use Rattle.decision.specs.declared.state.Mode.{Mode}
 use Rattle.decision.specs.declared.state.Traffic.{Traffic}
 use Rattle.traffic.specs.declared.Setup.{Setup}
 use Rattle.decision.specs.State.{inNetwork, isNormal, isRepeat, settled, transmits}
-use Rattle.soundness.specs.Sound.{larger, only, passiveSound, runs, trafficSound}
-use Rattle.traffic.specs.Traffic.{
-  afterMissed,
-  afterSent,
-  counts,
-  firstMessage,
-  framing,
-  heardInNormal,
-  heardInReady,
-  inNormal,
-  inReady,
-  inRepeat,
-  resumed,
-  toNormal,
-  toReady,
-  toRepeat,
-  toRepeatActive,
-  toRepeatAsked,
-  watching,
-}
+use Rattle.soundness.specs.Sound.{larger, only, runs, trafficSound}
+use Rattle.traffic.specs.Traffic.{afterMissed, afterSent, counts, firstMessage, framing, heardInNormal, heardInReady, inNormal, inReady, inRepeat, resumed, toNormal, toReady, toRepeat, toRepeatActive, toRepeatAsked}
 use Rattle.sleep.proofs.Passing.{Tuned}
 use Rattle.sleep.proofs.Simulation.{clash}
 

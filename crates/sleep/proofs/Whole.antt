@@ -1,28 +1,21 @@
 -- The whole channel: every state reached is sound, so that answer 1 is never given, and its mode runs as the mode alone.
 -- Assumes nothing.
-use Prim.Native.Nat.{ℕ, zero, suc, _+_, _-_, _≤_, _<_}
+use Prim.Native.Nat.{ℕ, zero, suc, _-_}
 use mathlib.Core.Path.{_≡_, refl, sym, _∙_}
-use mathlib.Core.Bool.{Bool, true, false, cond, not, _&&_, _||_}
-use mathlib.Core.List.{List, [], _∷_, _++_}
+use mathlib.Core.Bool.{Bool, true, false, cond, not, _&&_}
+use mathlib.Core.List.{List}
 use native.Mathlib.Omega.{arith}
-use lib.Dec.{eqb, ltb}
-use lib.ListN.{take, drop, replicate}
+use lib.Dec.{ltb}
+use lib.ListN.{take, drop}
 use borrow.Author.Tests.{le-leb, eq-eqb}
 use Rattle.bits.specs.Timers.{countedDown, loadedWhere}
-use Rattle.bits.proofs.Timers.{within-counted-down, within-zeros}
+use Rattle.bits.proofs.Timers.{within-counted-down}
 use Rattle.config.specs.declared.Config.{Config}
 use Rattle.config.specs.declared.Ticks.{Ticks}
 use Rattle.config.specs.Rules.{firstBroken, ticksFor}
-use Rattle.config.proofs.Passes.{Passes, passes}
+use Rattle.config.proofs.Passes.{passes}
 use Rattle.filter.specs.Filter.{informs}
 use Rattle.decision.specs.declared.state.State.{State}
-use Rattle.decision.specs.declared.state.State.the-variants.{
-  BusSleep,
-  PrepareBusSleep,
-  RepeatMessage,
-  NormalOperation,
-  ReadySleep,
-}
 use Rattle.decision.specs.declared.state.Mode.{Mode}
 use Rattle.decision.specs.declared.state.Traffic.{Traffic}
 use Rattle.traffic.specs.declared.Setup.{Setup}
@@ -50,44 +43,12 @@ use Rattle.frames.specs.Frames.{accepted, cbvOf, loadedBy, pnOf, sentLoaded}
 use Rattle.decision.specs.Refusals.{refusal, refusedPassive, isDone}
 use Rattle.channel.specs.declared.state.Own.{Own}
 use Rattle.channel.specs.declared.state.Channel.{Channel}
-use Rattle.channel.specs.Channel.{
-  answerOf,
-  carriedOut,
-  eiraAfter,
-  eraAfter,
-  fresh,
-  freshMode,
-  freshTraffic,
-  heardBy,
-  isTaken,
-  isTick,
-  modeAfter,
-  ownAfter,
-  refused,
-  replied,
-  sends,
-  sound,
-  trafficAfter,
-  trafficMoved,
-}
-use Rattle.sleep.specs.Summary.{
-  Since,
-  none,
-  ago,
-  Summary,
-  summary,
-  blank,
-  networkState,
-  requestedAfter,
-  sendingAfter,
-  turned,
-  summarised,
-  history,
-}
-use Rattle.sleep.specs.Sleep.{after, reached}
+use Rattle.channel.specs.Channel.{answerOf, carriedOut, eiraAfter, eraAfter, heardBy, isTaken, isTick, modeAfter, ownAfter, refused, replied, sends, sound, trafficAfter, trafficMoved}
+use Rattle.sleep.specs.Summary.{Summary, requestedAfter, sendingAfter, turned, summarised}
+use Rattle.sleep.specs.Sleep.{reached}
 use Rattle.sleep.proofs.Simulation.{Fit, Together, asleep, waiting, live, held, clash}
 use Rattle.sleep.proofs.Entering as entering
-use Rattle.sleep.proofs.Entering.{modeStep, modeRun, cleared, done, moved}
+use Rattle.sleep.proofs.Entering.{modeStep, cleared, done, moved}
 use Rattle.sleep.proofs.Quieting.{same}
 use Rattle.sleep.proofs.Passing.{Tuned, fit, tuned}
 use Rattle.sleep.proofs.PnTimers.{loaded-within, part-short}

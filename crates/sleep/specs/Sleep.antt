@@ -1,7 +1,7 @@
 -- In which tick a channel sleeps (demand 3): the claims, with no proof. They are stated for a channel in any host: A is what the
 -- host is called with, `mode xs` the channel's mode after the list xs, `okay xs` whether the channel is sound then, and
 -- `calls xs` the calls that have reached the channel. For a channel alone the host's calls are the channel's. Assumes nothing.
-use Prim.Native.Nat.{ℕ, _+_, _≤_}
+use Prim.Native.Nat.{_+_, _≤_}
 use mathlib.Core.Path.{_≡_}
 use mathlib.Core.Bool.{Bool, true, false}
 use mathlib.Core.List.{List, [], _∷_, _++_}
@@ -14,7 +14,7 @@ use Rattle.decision.specs.declared.state.Mode.{Mode}
 use Rattle.decision.specs.Decision.{Call}
 use Rattle.channel.specs.declared.state.Channel.{Channel}
 use Rattle.channel.specs.Channel.{fresh, isTick, replied, sound}
-use Rattle.sleep.specs.Summary.{Since, none, ago, Summary, blank, shown, summarised, history}
+use Rattle.sleep.specs.Summary.{none, ago, Summary, blank, shown, summarised, history}
 use Rattle.sleep.specs.Quiet.{Quiet, Unkept, answered, kept, ticksIn}
 
 -- one more call of the host brings the channel no call, or one

@@ -1,8 +1,7 @@
 -- Ticks that are kept beside the configuration: where they are right, the rules judge as with the ticks computed anew.
 -- Assumes nothing.
-use mathlib.Core.Path.{_≡_, refl, sym}
+use mathlib.Core.Path.{_≡_, refl}
 use mathlib.Core.Bool.{Bool, true, false, _&&_, and-false}
-use Prim.Native.Nat.{ℕ}
 use lib.Dec.{eqb}
 use borrow.Author.Tests.{eqb-true}
 use Rattle.choice.proofs.Tests.{and-left, and-right}

@@ -1,6 +1,5 @@
 // For tests alone: what the C host does not export, on numbers and byte strings, so that it can be compared with an
 // independent implementation. Nothing of the product stands on this crate.
-use answers::Answer;
 use config::Config;
 use config::Layout;
 use config::Partial;

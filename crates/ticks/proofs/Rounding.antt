@@ -1,12 +1,12 @@
 -- Rounding up, by multiplying: k ticks are right for a time exactly if they last as long and one fewer does not. Assumes nothing.
-use mathlib.Core.Path.{_≡_, refl, sym, _∙_}
+use mathlib.Core.Path.{_≡_, refl, sym}
 use mathlib.Core.Bool.{Bool, true, false, _&&_}
 use Prim.Native.Nat.{ℕ, zero, suc, _+_, _-_, _*_, _/_, _≤_, _<_}
-use native.Mathlib.Nat.{div-mul-le-self, lt-mul-div-succ, lt-div-mul-add, suc-mul}
+use native.Mathlib.Nat.{div-mul-le-self, lt-div-mul-add, suc-mul}
 use native.Mathlib.Omega.{arith}
 use lib.Arith.{digits-div}
 use lib.Dec.{leb, ltb, eqb}
-use borrow.Author.Tests.{leb-true, leb-false, ltb-true, ltb-false, eqb-true, eqb-false, le-leb, lt-leb, lt-ltb, le-ltb, eq-eqb, ne-eqb}
+use borrow.Author.Tests.{leb-true, leb-false, ltb-true, ltb-false, eqb-true, eqb-false, le-leb, lt-leb}
 use Rattle.ticks.specs.declared.Conversion.{Conversion}
 use Rattle.ticks.specs.Ticks.{conversionOf, periodLeast, periodMost, ticksOf, timeMost}
 

@@ -1,5 +1,5 @@
 -- Time: milliseconds to ticks of the main function. Assumes nothing.
-use mathlib.Core.Bool.{Bool, true, false, cond, _&&_}
+use mathlib.Core.Bool.{cond, _&&_}
 use Prim.Native.Nat.{ℕ, _+_, _-_, _/_}
 use lib.Dec.{leb}
 use Rattle.ticks.specs.declared.Conversion.{Conversion}

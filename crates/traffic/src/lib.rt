@@ -10,7 +10,7 @@ use decision::state::Mode;
 use decision::state::State;
 use decision::state::Traffic;
 ghost use mathlib.Core.Path.{_≡_};
-ghost use Rattle.decision.specs.State.{isNormal, isPrepare, isRepeat, transmits};
+ghost use Rattle.decision.specs.State.{transmits};
 ghost use Rattle.traffic.specs.Traffic.{
   counts,
   firstMessage,

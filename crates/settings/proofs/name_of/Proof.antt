@@ -1,5 +1,5 @@
 -- `settings::name_of` meets its contract. Assumes nothing.
-use mathlib.Core.Path.{_≡_, _∙_}
+use mathlib.Core.Path.{_∙_}
 use native.Mathlib.Nat.{zero-add}
 use Rattle.settings.specs.Settings.{nameOf}
 use Rattle.settings.proofs.name_of.Statement.{statement}

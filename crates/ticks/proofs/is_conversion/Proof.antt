@@ -1,10 +1,8 @@
 -- `ticks::is_conversion` meets its contract. Assumes nothing.
-use mathlib.Core.Path.{_≡_, sym}
-use Prim.Native.Nat.{_≤_}
+use mathlib.Core.Path.{sym}
 use native.Mathlib.Omega.{arith}
-use borrow.Author.Needs.{needs}
 use borrow.Author.Tests.{ne-eqb}
-use Rattle.ticks.specs.Ticks.{conversionOf, ticksOf}
+use Rattle.ticks.specs.Ticks.{ticksOf}
 use Rattle.ticks.proofs.Rounding.{
   covers-is,
   no-tick,

@@ -9,7 +9,7 @@ use lib.ListN.{length, take}
 use lib.Seq.{length-take-le}
 use Rattle.print.specs.Print.{Wrote}
 use Rattle.text.proofs.Filled.{filled-front}
-use Rattle.trace.specs.declared.Run.{Run}
+use Rattle.replay.specs.declared.Run.{Run}
 use Rattle.trace.specs.Trace.{printedFrom}
 use Rattle.trace.proofs.Room.{printed-le}
 use Rattle.trace_cases.proofs.passes.Statement.{statement}
