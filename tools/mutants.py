@@ -7,6 +7,7 @@ comes out as no valid Rattle does no harm, since the front end refuses it.
 
 import hashlib
 import re
+from collections import Counter
 from dataclasses import dataclass, field
 from pathlib import Path
 
@@ -136,10 +137,13 @@ class Sources:
 
     def __init__(self, folder, crates):
         self.texts, self.functions, self.constants, self.structs, self.enums = {}, [], [], [], []
+        self.named = {}  # the names in the code of a crate, with how often each stands there
         for crate in crates:
+            self.named[crate] = Counter()
             for file in sorted((folder / crate / "src").glob("*.rt")):
                 self.texts[file] = file.read_text()
                 code = code_of(self.texts[file])
+                self.named[crate].update(token.text for token in code if token.kind == "name")
                 path = [crate] if file.stem in ("lib", "main") else [crate, file.stem]
                 self.read_items(file, code, 0, len(code), path)
 
@@ -205,7 +209,9 @@ class Sources:
         return found[0][1] if len(found) == 1 else None
 
     def items(self, crate):
-        return [item for path, item in self.constants + self.functions if path[0] == crate]
+        """The functions of a crate, and its constants that it uses itself: others are changed where they are used."""
+        constants = [(path, item) for path, item in self.constants if self.named[path[0]][path[-1]] > 1]
+        return [item for path, item in constants + self.functions if path[0] == crate]
 
 
 # ---- mutants
@@ -271,8 +277,8 @@ class Finder:
 
     def find(self):
         for i in range(self.item.first, self.item.behind):
-            if self.code[i].kind == "number":
-                self.number(i)
+            if self.code[i].kind == "number" and self.code.text(i - 1) != ".":  # no field of a tuple
+                self.number(i, i + 1, self.code[i].text)
             elif self.code[i].kind == "name":
                 self.name(i)
             else:
@@ -331,10 +337,8 @@ class Finder:
 
     # ---- what stands at a place
 
-    def number(self, i):
-        text = self.code[i].text
-        if self.code.text(i - 1) == ".":
-            return  # the field of a tuple
+    def number(self, first, behind, text):
+        """Puts the two neighbours of a number for the tokens that stand for it."""
         if text[0] == "b":
             value = ord(text[2:-1].encode().decode("unicode_escape"))
             near = [chr(value + 1), chr(value - 1)]
@@ -345,7 +349,7 @@ class Finder:
             value, layout = int(digits, 16 if is_hex else 10), f"0x%0{len(digits) - 2}X" if is_hex else "%d"
             changed = [layout % near + text[len(digits) :] for near in (value + 1, value - 1) if near >= 0]
         for new in changed:
-            self.add("constant", i, i + 1, new)
+            self.add("constant", first, behind, new)
 
     def sign(self, i):
         code, text = self.code, self.code[i].text
@@ -412,6 +416,9 @@ class Finder:
             self.call(i, function)
         elif constant:
             self.put_beside("named", i, sources.constants, constant)
+            value = constant.code[constant.first : constant.behind]
+            if constant.path[0] != self.crate and [token.kind for token in value] == ["number"]:
+                self.number(i - 2 * (len(words) - 1), i + 1, value[0].text)
 
     def call(self, i, function):
         arguments, leaf = self.code.parts(i + 1), function.path[1] if function.path[0] == "choice" else ""
