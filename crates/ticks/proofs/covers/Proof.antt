@@ -1,5 +1,5 @@
 -- `ticks::covers` meets its contract. Assumes nothing.
-use Prim.Native.Nat.{_-_}
+use Prim.Native.Nat.{_-_, _*_}
 use native.Mathlib.Nat.{mul-le-mul-left}
 use native.Mathlib.Omega.{arith}
 use borrow.Author.Needs.{needs}
@@ -16,10 +16,10 @@ mul-result c =
     let a = c .before .args in omega (arith, mul-le-mul-left {m = a .period} {n = periodMost} (a .count - 1) (c .before .pre .0))
 
 returns : tie.Need-returns
-returns c = rw (le-leb _ _ (c .if1 .taken))
+returns c = let a = c .before .args in rw (le-leb (a .ms) (a .count * a .period) (c .if1 .taken))
 
 returns-2 : tie.Need-returns-2
-returns-2 c = rw (lt-leb _ _ (c .if1 .left))
+returns-2 c = let a = c .before .args in rw (lt-leb (a .ms) (a .count * a .period) (c .if1 .left))
 
 pub covers-spec : {M : Type 1} → statement M
 covers-spec = tie.close (tie.spec mul-if1 (λ c. search needs) mul-result returns returns-2)
