@@ -1,9 +1,10 @@
 -- Lists of calls that the claims speak of, by computation: none of the claims is empty. T = 4, W = 3 and R = 4 ticks of 10 ms.
 -- Assumes nothing.
 use Prim.Native.Nat.{ℕ, zero, suc}
-use mathlib.Core.Path.{_≡_, refl}
+use mathlib.Core.Path.{_≡_, refl, sym}
 use mathlib.Core.Bool.{Bool, true, false}
 use mathlib.Core.List.{List, [], _∷_, _++_}
+use native.Mathlib.Nat.{le-refl}
 use Rattle.ticks.specs.Ticks.{conversionOf, ticksOf}
 use Rattle.config.specs.declared.Config.{Config}
 use Rattle.config.specs.Bounds.{within}
@@ -37,22 +38,10 @@ use Rattle.decision.specs.Decision.{
   ruleAt,
   table,
 }
-use Rattle.modes.specs.Mode.{
-  enabled,
-  enterNetwork,
-  enterRepeat,
-  modeBy,
-  nmInReady,
-  nmInRepeatOrNormal,
-  prepared,
-  repeatInRepeat,
-  waitInPrepare,
-}
 use Rattle.decision.specs.Refusals.{refusal}
-use Rattle.channel.specs.Channel.{againFor, freshMode, modeAfter, ruleFor}
-use Rattle.sleep.specs.Summary.{Since, ago, blank, history, shown, summarised, turned}
+use Rattle.sleep.specs.Summary.{Since, Summary, ago, blank, history, shown, summarised, turned}
+use Rattle.sleep.specs.Quiet.{Quiet}
 use Rattle.sleep.specs.Sleep.{reached}
-use Rattle.sleep.proofs.Entering.{modeRun, modeStep}
 use Rattle.sleep.proofs.Theorem.{every-channel-sleeps}
 
 -- active or passive
@@ -86,45 +75,60 @@ unfolding firstBroken firstBrokenBy ticksFor rule1 rule2 rule3 rule4 rule5 rule6
 example-passes true = refl
 example-passes false = refl
 
--- the state after a list of calls, and k
+-- the state of the channel after a list of calls, and k
 abbrev stateOf : Bool → List Call → State
-stateOf passive xs = modeRun (example passive) (ticksFor (example passive)) freshMode xs .state
+stateOf passive xs = reached (example passive) xs .own .mode .state
 
 abbrev sinceOf : Bool → List Call → Since
 sinceOf passive xs = history (example passive) (ticksFor (example passive)) blank xs .since
 
+-- the state that the calls alone show, which is computed here, is the channel's
+abbrev shownBy : (passive : Bool) (xs : List Call) → stateOf passive xs ≡ shown (ticksFor (example passive)) (history (example passive) (ticksFor (example passive)) blank xs)
+shownBy passive xs = every-channel-sleeps (example passive) (example-passes passive) .agrees xs
+
 -- on a passive channel Bus-Sleep is entered in tick 11 = R+T+W, not in tick 10: the NM timer restarted in tick 4
 pub passive-sleeps : (stateOf true (passiveStartUp ∷ ticks 10) ≡ PrepareBusSleep) × (stateOf true (passiveStartUp ∷ ticks 11) ≡ BusSleep)
-unfolding modeStep modeAfter ruleFor againFor ruleAt table modeBy enterNetwork enterRepeat enabled nmInRepeatOrNormal prepared nmInReady waitInPrepare repeatInRepeat refusal ticksFor conversionOf ticksOf summarised turned shown
-passive-sleeps = (refl, refl)
+unfolding ruleAt table refusal ticksFor conversionOf ticksOf summarised turned shown
+passive-sleeps = (shownBy true (passiveStartUp ∷ ticks 10), shownBy true (passiveStartUp ∷ ticks 11))
 
 pub due-after-seven : sinceOf true (passiveStartUp ∷ ticks 11) ≡ ago 7
-unfolding modeStep modeAfter ruleFor againFor ruleAt table modeBy enterNetwork enterRepeat enabled nmInRepeatOrNormal prepared nmInReady waitInPrepare repeatInRepeat refusal ticksFor conversionOf ticksOf summarised turned shown
+unfolding ruleAt table refusal ticksFor conversionOf ticksOf summarised turned shown
 due-after-seven = refl
 
 -- the timeout in tick 4 is a keep-awake: k is 0 after it
 pub timeout-restarts : sinceOf true (passiveStartUp ∷ ticks 4) ≡ ago 0
-unfolding modeStep modeAfter ruleFor againFor ruleAt table modeBy enterNetwork enterRepeat enabled nmInRepeatOrNormal prepared nmInReady waitInPrepare repeatInRepeat refusal ticksFor conversionOf ticksOf summarised turned shown
+unfolding ruleAt table refusal ticksFor conversionOf ticksOf summarised turned shown
 timeout-restarts = refl
 
 -- a requested channel stays awake
 pub requested-stays : stateOf false (networkRequest ∷ ticks 30) ≡ NormalOperation
-unfolding modeStep modeAfter ruleFor againFor ruleAt table modeBy enterNetwork enterRepeat enabled nmInRepeatOrNormal prepared nmInReady waitInPrepare repeatInRepeat refusal ticksFor conversionOf ticksOf summarised turned shown
-requested-stays = refl
+unfolding ruleAt table refusal ticksFor conversionOf ticksOf summarised turned shown
+requested-stays = shownBy false (networkRequest ∷ ticks 30)
 
 -- sending disabled past T: still in Network Mode, and after an enable T+W ticks to Bus-Sleep
 abbrev silenced : List Call
 silenced = passiveStartUp ∷ disableCommunication ∷ ticks 9
 
 pub disabled-stays : stateOf false silenced ≡ ReadySleep
-unfolding modeStep modeAfter ruleFor againFor ruleAt table modeBy enterNetwork enterRepeat enabled nmInRepeatOrNormal prepared nmInReady waitInPrepare repeatInRepeat refusal ticksFor conversionOf ticksOf summarised turned shown
-disabled-stays = refl
+unfolding ruleAt table refusal ticksFor conversionOf ticksOf summarised turned shown
+disabled-stays = shownBy false silenced
 
 pub enabled-sleeps : (stateOf false (silenced ++ (enableCommunication ∷ ticks 6)) ≡ PrepareBusSleep) × (stateOf false (silenced ++ (enableCommunication ∷ ticks 7)) ≡ BusSleep)
-unfolding modeStep modeAfter ruleFor againFor ruleAt table modeBy enterNetwork enterRepeat enabled nmInRepeatOrNormal prepared nmInReady waitInPrepare repeatInRepeat refusal ticksFor conversionOf ticksOf summarised turned shown
-enabled-sleeps = (refl, refl)
+unfolding ruleAt table refusal ticksFor conversionOf ticksOf summarised turned shown
+enabled-sleeps = (shownBy false (silenced ++ (enableCommunication ∷ ticks 6)), shownBy false (silenced ++ (enableCommunication ∷ ticks 7)))
 
--- the same of the channel itself
-pub channel-sleeps : reached (example true) (passiveStartUp ∷ ticks 11) .own .mode .state ≡ BusSleep
-unfolding modeStep modeAfter ruleFor againFor ruleAt table modeBy enterNetwork enterRepeat enabled nmInRepeatOrNormal prepared nmInReady waitInPrepare repeatInRepeat refusal ticksFor conversionOf ticksOf summarised turned shown
-channel-sleeps = every-channel-sleeps (example true) (example-passes true) .agrees (passiveStartUp ∷ ticks 11)
+-- ticks alone are quiet
+quiet-ticks : (passive : Bool) (n : ℕ) (b : Summary) → Quiet (example passive) (ticksFor (example passive)) b (ticks n)
+quiet-ticks passive zero b = tt
+quiet-ticks passive (suc n) b = (λ e. refl, quiet-ticks passive n _)
+
+-- what the bound asks for is met: released, enabled and left quiet for R+T+W ticks
+pub quiet-sleeps : stateOf true (passiveStartUp ∷ ticks 11) ≡ BusSleep
+unfolding ruleAt table refusal ticksFor conversionOf ticksOf summarised turned shown
+quiet-sleeps =
+    let s = every-channel-sleeps (example true) (example-passes true) in
+    s .sleeps (passiveStartUp ∷ []) (ticks 11) (ticks 11) refl
+    (sym (s .same (passiveStartUp ∷ []) .0))
+    (sym (s .same (passiveStartUp ∷ []) .1))
+    (quiet-ticks true 11 (history (example true) (ticksFor (example true)) blank (passiveStartUp ∷ [])))
+    (le-refl 11)

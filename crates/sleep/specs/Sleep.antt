@@ -37,6 +37,7 @@ pub record Due (c : Config) (t : Ticks) (b : Summary) (x : Call) : Type 0 where
 pub record Sleeps (c : Config) (t : Ticks) (A : Type 0) (mode : List A → Mode) (okay : List A → Bool) (calls : List A → List Call) : Type 0 where
   -- every state reached is sound
   pub sound : (xs : List A) → okay xs ≡ true
+  -- a call of the host brings the channel at most one call
   pub hears : (xs : List A) (x : A) → Told (calls xs) (calls (xs ++ (x ∷ [])))
   -- after every call the channel is in the state that the calls alone show, requested, enabled and filtering as they say
   pub agrees : (xs : List A) → mode xs .state ≡ shown t (history c t blank (calls xs))
@@ -45,6 +46,7 @@ pub record Sleeps (c : Config) (t : Ticks) (A : Type 0) (mode : List A → Mode)
   -- Bus-Sleep is entered in exactly the due ticks
   pub enters : (xs : List A) (x : A) (y : Call) → calls (xs ++ (x ∷ [])) ≡ calls xs ++ (y ∷ [])
       → Enters (mode xs) (mode (xs ++ (x ∷ []))) ↔ Due c t (history c t blank (calls xs)) y
+  -- a call of the host that brings it none leaves its mode
   pub unmoved : (xs : List A) (x : A) → calls (xs ++ (x ∷ [])) ≡ calls xs → mode (xs ++ (x ∷ [])) ≡ mode xs
   -- k counts the ticks answered 0 since the last keep-awake; it is none if there was no keep-awake
   pub counts : (xs : List A) (ys : List Call) (x : Call) (zs : List Call) → calls xs ≡ ys ++ (x ∷ zs)
