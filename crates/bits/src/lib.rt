@@ -127,7 +127,7 @@ fn lesser(a: usize, b: usize) -> usize
     if a < b { a } else { b }
 }
 
-// How many of `n` timers have a bit in so many bytes. No product, so that no number is too large.
+// How many of `n` timers have a bit in so many bytes. The product is made only where it is at most `n`.
 fn timers_of(bytes: usize, n: usize) -> usize
     ensures { λ r. ⌜ r ≡ min (8 * bytes) n ⌝ }
 {

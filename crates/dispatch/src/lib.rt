@@ -1,7 +1,7 @@
 // A call that a line of a trace asks for, carried out.
 //
 // Promises: what `replied` gives for the call, and every byte of the lent frame, on a whole channel or on one in parts.
-// Leaves to others: reading the line (`commands`), and printing the reply (`trace`).
+// Leaves to others: reading the line (`commands`), and printing the reply (`replay`).
 use channel::state::Channel;
 use channel::state::Effect;
 use channel::state::Reply;
@@ -19,8 +19,7 @@ ghost use Rattle.dispatch.specs.Calls.{callOf, carriedOutBy};
 
 // ---- on a whole channel
 
-// A call with its argument: its bytes stand in front of the lent ones, and a frame goes into the
-// lent frame.
+// A call with its argument: its bytes stand in front of the lent ones, and a frame goes into the lent frame.
 fn carry_out(ch: Channel, k: Command, bytes: &[u8], frame: &mut [u8]) -> Reply
     ensures { λ r. ⌜ ticked r (now (frame .exit)) ≡ carriedOutBy ch (callOf k (now (bytes .entry)) (length (now (frame .entry)))) (now (frame .entry)) ⌝ }
 {
