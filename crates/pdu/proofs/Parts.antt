@@ -11,9 +11,9 @@ use borrow.Author.Tests.{eqb-true}
 use Rattle.choice.proofs.Tests.{and-left, and-right}
 use Rattle.config.specs.declared.Config.{Config}
 use Rattle.config.specs.Ranges.{userStartOf, userLengthOf}
-use Rattle.config.specs.Rules.{firstBroken}
-use Rattle.config.proofs.Passes.{passes}
-use Rattle.config.proofs.Layouts.{filled-by}
+use Rattle.rules.specs.Rules.{firstBroken}
+use Rattle.rules.proofs.Passes.{passes}
+use Rattle.rules.proofs.Layouts.{filled-by}
 use Rattle.pdu.specs.Fields.{fields}
 use Rattle.pdu.specs.Pdu.{byteAt, fieldsOf, ofLengths}
 use Rattle.pdu.proofs.Bytes.{sets-over}

@@ -10,7 +10,7 @@ use Rattle.answers.specs.declared.Answer.the-variants.{Done, Rule, Length}
 use Rattle.config.specs.declared.Config.{Config}
 use Rattle.config.specs.declared.Layout.{Layout}
 use Rattle.config.specs.Ranges.{off, userStartOf, userLengthOf}
-use Rattle.config.specs.Rules.{firstBroken, firstBrokenOfHeader}
+use Rattle.rules.specs.Rules.{firstBroken, firstBrokenOfHeader}
 use Rattle.pdu.specs.Fields.{Fields, fields}
 
 -- a header field in its byte; one that is off takes no byte and reads 0

@@ -7,10 +7,10 @@ use lib.ListN.{length}
 use Rattle.fields.specs.Fields.{tab}
 use Rattle.print.specs.Print.{digitsMost, hexText, numberText}
 use Rattle.text.specs.Lines.{lineFeed}
-use Rattle.decision.specs.declared.state.State.{State}
-use Rattle.decision.specs.declared.state.State.the-variants as states
-use Rattle.decision.specs.declared.state.Note.{Note}
-use Rattle.decision.specs.declared.state.Note.the-variants as notes
+use Rattle.states.specs.declared.State.{State}
+use Rattle.states.specs.declared.State.the-variants as states
+use Rattle.states.specs.declared.Note.{Note}
+use Rattle.states.specs.declared.Note.the-variants as notes
 use Rattle.channel.specs.declared.state.Notes.{Notes}
 
 -- the byte for a field without content

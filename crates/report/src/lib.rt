@@ -4,8 +4,8 @@
 // what a line's answer is (`trace`), and that the buffer has room. The caller counts the room once for all bytes of a
 // line (`length-line`), so that no writer tests it byte by byte.
 use channel::state::Notes;
-use decision::state::Note;
-use decision::state::State;
+use states::Note;
+use states::State;
 ghost use mathlib.Core.Path.{_≡_};
 ghost use mathlib.Core.List.{[], _∷_};
 ghost use Prim.Native.Nat.{_+_, _*_, _≤_, _<_};
