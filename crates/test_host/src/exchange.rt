@@ -354,7 +354,7 @@ fn reply_of(ch: Channel, call: u32, set: bool, bytes: &[u8], frame: &mut [u8]) -
         4 => calls::disable_communication(ch),
         5 => calls::enable_communication(ch),
         6 => calls::tx_confirmation(ch, set),
-        7 => inputs::rx_indication(ch, bytes),
+        7 => reception::rx_indication(ch, bytes),
         8 => calls::confirm_pn_availability(ch),
         9 => inputs::set_user_data(ch, bytes),
         10 => inputs::set_pn_requests(ch, bytes),
@@ -415,7 +415,7 @@ fn put_vector(vector: &[u8; 7], out: &mut [u8]) {
 // Status, with both vectors in the first seven of the lent bytes and 0 behind them.
 #[no_mangle]
 pub extern "C" fn test_status(words: &[u64], era: &mut [u8], eira: &mut [u8]) -> Shown {
-    let s = calls::status(channel_in(words));
+    let s = status::status(channel_in(words));
     let a = s.answer;
     let first = s.era;
     put_vector(&first, era);

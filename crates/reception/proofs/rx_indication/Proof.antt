@@ -1,6 +1,6 @@
--- `inputs::rx_indication` meets its contract. Assumes nothing.
-use Rattle.inputs.proofs.rx_indication.Statement.{statement}
-use Rattle.inputs.proofs.rx_indication.Tie as tie
+-- `reception::rx_indication` meets its contract. Assumes nothing.
+use Rattle.reception.proofs.rx_indication.Statement.{statement}
+use Rattle.reception.proofs.rx_indication.Tie as tie
 
 returns : tie.Need-returns
 returns c =

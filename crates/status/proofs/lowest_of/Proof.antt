@@ -1,9 +1,9 @@
--- `calls::lowest_of` meets its contract. Assumes nothing.
+-- `status::lowest_of` meets its contract. Assumes nothing.
 use mathlib.Core.Path.{sym, ap, _∙_}
 use borrow.Author.Needs.{needs}
 use Rattle.channel.specs.Channel.{lowestPnc}
-use Rattle.calls.proofs.lowest_of.Statement.{statement}
-use Rattle.calls.proofs.lowest_of.Tie as tie
+use Rattle.status.proofs.lowest_of.Statement.{statement}
+use Rattle.status.proofs.lowest_of.Tie as tie
 
 returns : tie.Need-returns
 returns c =

@@ -1,4 +1,4 @@
--- `inputs::rx_indication_in_place` meets its contract. Assumes nothing.
+-- `reception::rx_indication_in_place` meets its contract. Assumes nothing.
 use mathlib.Core.Path.{_≡_, sym, _∙_}
 use mathlib.Core.List.{List}
 use Prim.Native.Nat.{ℕ}
@@ -8,8 +8,8 @@ use Rattle.refusals.specs.Refusals.{refusal}
 use Rattle.channel.specs.Channel.{answerOf, refused, sound}
 use Rattle.channel.specs.Parts.{channelOf, unmoved}
 use Rattle.channel.proofs.Carried.{carried, dropped-carried, heard-carried, not-carried}
-use Rattle.inputs.proofs.rx_indication_in_place.Statement.{statement}
-use Rattle.inputs.proofs.rx_indication_in_place.Tie as tie
+use Rattle.reception.proofs.rx_indication_in_place.Statement.{statement}
+use Rattle.reception.proofs.rx_indication_in_place.Tie as tie
 
 -- the channel that comes in, with any user data and PN requests
 abbrev entry : tie.Start → List ℕ → List ℕ → Channel

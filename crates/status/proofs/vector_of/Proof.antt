@@ -1,8 +1,8 @@
--- `calls::vector_of` meets its contract. Assumes nothing.
+-- `status::vector_of` meets its contract. Assumes nothing.
 use borrow.Author.Needs.{needs}
 use Rattle.channel.specs.Channel.{vectorOf}
-use Rattle.calls.proofs.vector_of.Statement.{statement}
-use Rattle.calls.proofs.vector_of.Tie as tie
+use Rattle.status.proofs.vector_of.Statement.{statement}
+use Rattle.status.proofs.vector_of.Tie as tie
 
 returns : tie.Need-returns
 unfolding vectorOf

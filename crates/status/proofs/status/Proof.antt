@@ -1,14 +1,25 @@
--- `calls::status` meets its contract. Assumes nothing.
-use mathlib.Core.Path.{_≡_}
-use Rattle.decision.specs.Decision.{status}
-use Rattle.refusals.specs.Refusals.{refusal}
+-- `status::status` meets its contract. Assumes nothing.
+use mathlib.Core.Path.{_≡_, _∙_}
+use mathlib.Core.Bool.{Bool, false}
+use Rattle.decision.specs.Decision.{isNotHere, ruleOf, status}
+use Rattle.refusals.specs.Refusals.{firstOf, judged, refusal}
+use Rattle.channel.specs.declared.state.Channel.{Channel}
 use Rattle.channel.specs.Channel.{answerOf, shown, sound, statusOf}
-use Rattle.calls.proofs.status.Statement.{statement}
-use Rattle.calls.proofs.status.Tie as tie
+use Rattle.status.proofs.status.Statement.{statement}
+use Rattle.status.proofs.status.Tie as tie
+
+-- the answer of the table's rows where none is about the call itself
+answered : (ch : Channel) (ok here : Bool) → ok ≡ sound ch → here ≡ isNotHere (ruleOf (ch .own .mode .state) 11) → judged ok (firstOf false false here false) ≡ answerOf ch status
+unfolding answerOf refusal
+answered ch ok here e f = rw (e, f)
 
 answer : (c : tie.After-judge) → c .judge .result ≡ answerOf (c .before .before .before .before .before .before .before .before .before .before .before .args .t1) status
-unfolding answerOf refusal sound
-answer c = rw (c .judge .ensures, c .before .is-not-here .ensures, c .before .before .rule-of .ensures, c .before .before .before .sound .ensures)
+unfolding sound
+answer c =
+    let ch = c .before .before .before .before .before .before .before .before .before .before .before .args .t1 in
+    c .judge .ensures
+    ∙ answered ch (c .before .before .before .sound .result) (c .before .is-not-here .result) (c .before .before .before .sound .ensures)
+    (rw (c .before .is-not-here .ensures, c .before .before .rule-of .ensures))
 
 returns : tie.Need-returns
 unfolding statusOf shown

@@ -1,8 +1,8 @@
--- `calls::unshown` meets its contract. Assumes nothing.
+-- `status::unshown` meets its contract. Assumes nothing.
 use mathlib.Core.Path.{refl}
 use Rattle.channel.specs.Channel.{unshown}
-use Rattle.calls.proofs.unshown.Statement.{statement}
-use Rattle.calls.proofs.unshown.Tie as tie
+use Rattle.status.proofs.unshown.Statement.{statement}
+use Rattle.status.proofs.unshown.Tie as tie
 
 returns : tie.Need-returns
 unfolding unshown
