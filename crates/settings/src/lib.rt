@@ -93,7 +93,7 @@ fn all_numbers(s: &[u64]) -> bool
 fn name_of(l: &[u8]) -> usize
     ensures { λ r. ⌜ r ≡ nameOf (now (l .entry)) ⌝ }
 {
-    names::call(pdu::part(l, 0, fields::field_end(l, 0)))
+    names::call(bytes::part(l, 0, fields::field_end(l, 0)))
 }
 
 // Is this a line of that name, with as many fields as it must have, and not too long?
@@ -188,7 +188,7 @@ fn behind_tab<'a>(l: &'a [u8]) -> &'a [u8]
     ensures { λ r. ⌜ now r ≡ behindTab (now (l .entry)) ⌝ }
 {
     let end = fields::field_end(l, 0);
-    pdu::part(l, end + 1, l.len())
+    bytes::part(l, end + 1, l.len())
 }
 
 // What stands behind the fifth tab.

@@ -16,8 +16,8 @@ use Rattle.commands.specs.declared.Asked.the-variants.{Unreadable, Call}
 use Rattle.config.specs.declared.Config.{Config}
 use Rattle.decision.specs.Decision as calls
 use Rattle.frames.specs.Frames.{framed}
-use Rattle.pdu.specs.Fields.{Fields}
-use Rattle.pdu.specs.Pdu.{frameOf}
+use Rattle.layout.specs.Fields.{Fields}
+use Rattle.layout.specs.Layout.{frameOf}
 use Rattle.print.specs.Print.{decimal}
 use Rattle.report.specs.Report.{changeWord, dashed, frameText, headText, letterOf, lineMost, lineText, notesText, piece, wordOf}
 use Rattle.report.proofs.Line.{length-line}

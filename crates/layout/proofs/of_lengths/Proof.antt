@@ -1,7 +1,7 @@
--- `pdu::of_lengths` meets its contract. Assumes nothing.
-use Rattle.pdu.specs.Pdu.{ofLengths}
-use Rattle.pdu.proofs.of_lengths.Statement.{statement}
-use Rattle.pdu.proofs.of_lengths.Tie as tie
+-- `layout::of_lengths` meets its contract. Assumes nothing.
+use Rattle.layout.specs.Layout.{ofLengths}
+use Rattle.layout.proofs.of_lengths.Statement.{statement}
+use Rattle.layout.proofs.of_lengths.Tie as tie
 
 returns : tie.Need-returns
 unfolding ofLengths

@@ -1,8 +1,8 @@
--- `pdu::put_byte` meets its contract. Assumes nothing.
+-- `layout::put_byte` meets its contract. Assumes nothing.
 use borrow.Author.Needs.{needs}
 use borrow.Author.Tests.{eq-eqb, ne-eqb}
-use Rattle.pdu.proofs.put_byte.Statement.{statement}
-use Rattle.pdu.proofs.put_byte.Tie as tie
+use Rattle.layout.proofs.put_byte.Statement.{statement}
+use Rattle.layout.proofs.put_byte.Tie as tie
 
 returns : tie.Need-returns
 returns c = rw (eq-eqb _ _ (c .if1 .taken))

@@ -1,8 +1,8 @@
--- `pdu::write_fields` meets its contract. Assumes nothing.
+-- `layout::write_fields` meets its contract. Assumes nothing.
 use borrow.Author.Needs.{needs}
-use Rattle.pdu.specs.Pdu.{frameOf}
-use Rattle.pdu.proofs.write_fields.Statement.{statement}
-use Rattle.pdu.proofs.write_fields.Tie as tie
+use Rattle.layout.specs.Layout.{frameOf}
+use Rattle.layout.proofs.write_fields.Statement.{statement}
+use Rattle.layout.proofs.write_fields.Tie as tie
 
 returns : tie.Need-returns
 unfolding frameOf

@@ -1,7 +1,7 @@
--- `pdu::byte_at` meets its contract. Assumes nothing.
+-- `layout::byte_at` meets its contract. Assumes nothing.
 use borrow.Author.Tests.{eq-eqb, ne-eqb}
-use Rattle.pdu.proofs.byte_at.Statement.{statement}
-use Rattle.pdu.proofs.byte_at.Tie as tie
+use Rattle.layout.proofs.byte_at.Statement.{statement}
+use Rattle.layout.proofs.byte_at.Tie as tie
 
 returns : tie.Need-returns
 returns c = rw (eq-eqb _ _ (c .if1 .taken))
