@@ -1,11 +1,11 @@
--- `report::put_word` meets its contract. Assumes nothing.
+-- `notes_text::put_word` meets its contract. Assumes nothing.
 use native.Mathlib.Omega.{arith}
 use borrow.Author.Needs.{needs}
 use borrow.Author.Tests.{eq-eqb, ne-eqb}
 use Rattle.print.proofs.Wrote.{then}
-use Rattle.report.specs.Report.{piece}
-use Rattle.report.proofs.put_word.Statement.{statement}
-use Rattle.report.proofs.put_word.Tie as tie
+use Rattle.notes_text.specs.NotesText.{piece}
+use Rattle.notes_text.proofs.put_word.Statement.{statement}
+use Rattle.notes_text.proofs.put_word.Tie as tie
 
 returns : tie.Need-returns
 unfolding piece

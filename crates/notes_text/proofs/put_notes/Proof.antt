@@ -1,12 +1,12 @@
--- `report::put_notes` meets its contract. Assumes nothing.
+-- `notes_text::put_notes` meets its contract. Assumes nothing.
 use Prim.Native.Nat.{_+_, _≤_}
 use native.Mathlib.Omega.{arith}
 use borrow.Author.Needs.{needs}
 use Rattle.print.proofs.Wrote.{wrote-none}
-use Rattle.report.specs.Report.{notesText}
-use Rattle.report.proofs.Notes.{then-word, then-dash, first-end, note-end, change-end}
-use Rattle.report.proofs.put_notes.Statement.{statement}
-use Rattle.report.proofs.put_notes.Tie as tie
+use Rattle.notes_text.specs.NotesText.{notesText}
+use Rattle.notes_text.proofs.Notes.{then-word, then-dash, first-end, note-end, change-end}
+use Rattle.notes_text.proofs.put_notes.Statement.{statement}
+use Rattle.notes_text.proofs.put_notes.Tie as tie
 
 returns : tie.Need-returns
 unfolding notesText

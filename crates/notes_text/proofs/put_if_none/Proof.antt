@@ -1,12 +1,12 @@
--- `report::put_if_none` meets its contract. Assumes nothing.
+-- `notes_text::put_if_none` meets its contract. Assumes nothing.
 use mathlib.Core.Path.{_≡_}
 use native.Mathlib.Omega.{arith}
 use borrow.Author.Needs.{needs}
 use borrow.Author.Tests.{eq-eqb, ne-eqb}
 use Rattle.print.proofs.Wrote.{wrote-none}
-use Rattle.report.specs.Report.{dashed}
-use Rattle.report.proofs.put_if_none.Statement.{statement}
-use Rattle.report.proofs.put_if_none.Tie as tie
+use Rattle.notes_text.specs.NotesText.{dashed}
+use Rattle.notes_text.proofs.put_if_none.Statement.{statement}
+use Rattle.notes_text.proofs.put_if_none.Tie as tie
 
 returns : tie.Need-returns
 unfolding dashed

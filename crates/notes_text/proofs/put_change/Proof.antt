@@ -1,12 +1,12 @@
--- `report::put_change` meets its contract. Assumes nothing.
+-- `notes_text::put_change` meets its contract. Assumes nothing.
 use mathlib.Core.Path.{_≡_}
 use mathlib.Core.Bool.{true, false}
 use native.Mathlib.Omega.{arith}
 use borrow.Author.Needs.{needs}
 use Rattle.print.proofs.Wrote.{wrote-none}
-use Rattle.report.specs.Report.{changeWord, piece}
-use Rattle.report.proofs.put_change.Statement.{statement}
-use Rattle.report.proofs.put_change.Tie as tie
+use Rattle.notes_text.specs.NotesText.{changeWord, piece}
+use Rattle.notes_text.proofs.put_change.Statement.{statement}
+use Rattle.notes_text.proofs.put_change.Tie as tie
 
 returns : tie.Need-returns
 unfolding changeWord

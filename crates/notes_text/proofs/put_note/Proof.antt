@@ -1,10 +1,10 @@
--- `report::put_note` meets its contract. Assumes nothing.
+-- `notes_text::put_note` meets its contract. Assumes nothing.
 use native.Mathlib.Omega.{arith}
 use borrow.Author.Needs.{needs}
 use Rattle.print.proofs.Wrote.{wrote-none}
-use Rattle.report.specs.Report.{piece, wordOf}
-use Rattle.report.proofs.put_note.Statement.{statement}
-use Rattle.report.proofs.put_note.Tie as tie
+use Rattle.notes_text.specs.NotesText.{piece, wordOf}
+use Rattle.notes_text.proofs.put_note.Statement.{statement}
+use Rattle.notes_text.proofs.put_note.Tie as tie
 
 returns : tie.Need-returns
 unfolding piece wordOf

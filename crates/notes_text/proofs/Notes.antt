@@ -12,7 +12,7 @@ use Rattle.print.proofs.Wrote.{then}
 use Rattle.decision.specs.declared.state.Note.{Note}
 use Rattle.decision.specs.declared.state.Note.the-variants as notes
 use Rattle.channel.specs.declared.state.Notes.{Notes}
-use Rattle.report.specs.Report.{addWord, changeWord, dashed, letterEi, letterEr, notesMost, notesText, piece, wordOf, words}
+use Rattle.notes_text.specs.NotesText.{addWord, changeWord, dashed, letterEi, letterEr, notesMost, notesText, piece, wordOf, words}
 
 -- a place behind a text is where the text begins exactly if the text is empty
 at-start : (i : ℕ) {p : ℕ} (t : List ℕ) → p ≡ i + length t → eqb p i ≡ eqb (length t) 0
