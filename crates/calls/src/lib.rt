@@ -23,7 +23,7 @@ ghost use Rattle.channel.specs.Moved.{finished, plainly};
 fn finish(ch: Channel, a: Answer, rule: Rule, again: bool) -> Reply
     ensures { λ r. ⌜ r ≡ finished ch a rule again ⌝ }
 {
-    if decision::refusals::is_done(a) {
+    if refusals::is_done(a) {
         return channel::moved(ch, rule, again, false, false);
     }
     channel::refused(ch, a)
@@ -44,7 +44,7 @@ fn plain(ch: Channel, call: u8, passive: bool, off: bool, heeded: bool) -> Reply
         &ch.eira,
     );
     let rule = decision::rule_of(state, call);
-    let a = decision::refusals::judge(ok, passive, off, decision::is_not_here(rule), false);
+    let a = refusals::judge(ok, passive, off, decision::is_not_here(rule), false);
     finish(ch, a, decision::heed(heeded, rule), false)
 }
 
@@ -147,13 +147,13 @@ fn vector_of(t: &[u16; 56]) -> [u8; 7]
     ensures { λ r. ⌜ r ≡ vectorOf (now (t .entry)) ⌝ }
 {
     [
-        bits::vector_byte(t, 0),
-        bits::vector_byte(t, 8),
-        bits::vector_byte(t, 16),
-        bits::vector_byte(t, 24),
-        bits::vector_byte(t, 32),
-        bits::vector_byte(t, 40),
-        bits::vector_byte(t, 48),
+        timers::vector_byte(t, 0),
+        timers::vector_byte(t, 8),
+        timers::vector_byte(t, 16),
+        timers::vector_byte(t, 24),
+        timers::vector_byte(t, 32),
+        timers::vector_byte(t, 40),
+        timers::vector_byte(t, 48),
     ]
 }
 
@@ -196,15 +196,15 @@ pub fn status(ch: Channel) -> Status
     let state = m.state;
     let ok = soundness::sound(c, ch.own.ticks, m, ch.own.traffic, &ch.own.era, &ch.eira);
     let elsewhere = decision::is_not_here(decision::rule_of(state, decision::STATUS));
-    let a = decision::refusals::judge(ok, false, false, elsewhere, false);
-    if decision::refusals::is_done(a) {
+    let a = refusals::judge(ok, false, false, elsewhere, false);
+    if refusals::is_done(a) {
         let era = vector_of(&ch.own.era);
         let eira = vector_of(&ch.eira);
         let count = count_of(&eira);
         let lowest = lowest_of(c, &eira);
         return Status {
             answer: Answer::Done,
-            state: decision::state_number(state),
+            state: states::state_number(state),
             era: era,
             eira: eira,
             count: count,

@@ -13,7 +13,7 @@ use Rattle.ticks.specs.Ticks.{conversionOf, ticksOf}
 use Rattle.bits.specs.Bits.{someMasked}
 use Rattle.config.specs.Bounds.{within}
 use Rattle.config.specs.Ranges.{headerLength}
-use Rattle.config.specs.Rules.{
+use Rattle.rules.specs.Rules.{
   firstBroken,
   firstBrokenBy,
   ticksFor,
@@ -31,26 +31,16 @@ use Rattle.config.specs.Rules.{
   pnAbsent,
 }
 use Rattle.filter.specs.Filter.{verdictOf, keeps}
-use Rattle.bits.specs.Timers.{allWithin, countedDown, loadedWhere, vectorsDiffer}
+use Rattle.timers.specs.Timers.{allWithin, countedDown, loadedWhere, vectorsDiffer}
 use Rattle.decision.specs.Decision.{ruleAt, table}
-use Rattle.modes.specs.Mode.{
-  enabled,
-  enterNetwork,
-  enterRepeat,
-  heard,
-  modeBy,
-  nmInReady,
-  nmInRepeatOrNormal,
-  prepared,
-  repeatInRepeat,
-  restart,
-  waitInPrepare,
-}
-use Rattle.traffic.specs.Traffic.{counts, framing, inNormal, inReady, inRepeat, isDue, setupOf, toRepeat, trafficBy}
+use Rattle.modes.specs.Mode.{enabled, enterNetwork, enterRepeat, heard, nmInReady, nmInRepeatOrNormal, prepared, repeatInRepeat, restart, waitInPrepare}
+use Rattle.transitions.specs.Transitions.{modeBy, trafficBy}
+use Rattle.traffic.specs.Traffic.{inNormal, inReady, inRepeat, setupOf, toRepeat}
+use Rattle.sending.specs.Sending.{counts, framing, isDue}
 use Rattle.notes.specs.Notes.{firstBy, secondBy}
 use Rattle.soundness.specs.Sound.{configured, modeSound, passiveSound, scalarsSound, trafficSound}
 use Rattle.frames.specs.Frames.{accepted, asksRepeat, loadedBy, sentLoaded}
-use Rattle.decision.specs.Refusals.{refusal}
+use Rattle.refusals.specs.Refusals.{refusal}
 use Rattle.channel.specs.Channel.{
   againFor,
   answerOf,

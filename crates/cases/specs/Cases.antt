@@ -6,12 +6,12 @@ use Rattle.ticks.specs.declared.Conversion.{Conversion}
 use Rattle.ticks.specs.Ticks.{conversionOf}
 use Rattle.config.specs.declared.Config.{Config}
 use Rattle.config.specs.declared.Partial.{Partial}
-use Rattle.config.specs.Rules.{firstBroken}
+use Rattle.rules.specs.Rules.{firstBroken}
 use Rattle.answers.specs.Answers.{numberOf}
 use Rattle.filter.specs.declared.Verdict.{Verdict}
 use Rattle.filter.specs.Filter.{verdictOf, verdictAnswer, verdictValue}
-use Rattle.decision.specs.declared.state.Note.{Note}
-use Rattle.decision.specs.declared.state.Note.the-variants.{
+use Rattle.states.specs.declared.Note.{Note}
+use Rattle.states.specs.declared.Note.the-variants.{
   Nothing,
   NetworkMode,
   NetworkStart,
@@ -21,7 +21,7 @@ use Rattle.decision.specs.declared.state.Note.the-variants.{
   RemoteSleepCancelled,
   RemoteSleepIndication,
 }
-use Rattle.decision.specs.State.{stateNumber}
+use Rattle.states.specs.State.{stateNumber}
 use Rattle.decision.specs.Decision.{Call, confirmPnAvailability, disableCommunication, mainFunction, passiveStartUp, rxIndication}
 use Rattle.channel.specs.declared.state.Reply.{Reply}
 use Rattle.channel.specs.Channel.{initialised, replied}

@@ -8,15 +8,16 @@ use Rattle.channel.specs.declared.state.Channel.{Channel}
 use Rattle.channel.specs.declared.state.Effect.{Effect}
 use Rattle.channel.specs.declared.state.Reply.{Reply}
 use lib.ListN.{length}
-use Rattle.bits.specs.Timers.{countedDown, vectorsDiffer}
-use Rattle.bits.proofs.Timers.{differs-not}
+use Rattle.timers.specs.Timers.{countedDown, vectorsDiffer}
+use Rattle.timers.proofs.Timers.{differs-not}
 use Rattle.decision.specs.declared.Rule.the-variants.{Keep}
 use Rattle.decision.specs.Decision.{Call, rxIndication, mainFunction, ruleOf}
 use Rattle.frames.specs.Frames.{accepted, asksRepeat, framed, loadedBy, sentLoaded}
-use Rattle.modes.specs.Mode.{modeBy}
-use Rattle.traffic.specs.Traffic.{framing, setupOf, trafficBy}
+use Rattle.transitions.specs.Transitions.{modeBy, trafficBy}
+use Rattle.traffic.specs.Traffic.{setupOf}
+use Rattle.sending.specs.Sending.{framing}
 use Rattle.notes.specs.Notes.{firstBy, secondBy}
-use Rattle.decision.specs.Refusals.{isDone}
+use Rattle.refusals.specs.Refusals.{isDone}
 use Rattle.channel.specs.Channel.{
   againFor,
   answerOf,

@@ -10,32 +10,34 @@ use Rattle.answers.specs.declared.Answer.the-variants.{Done, Rule}
 use Rattle.bits.specs.declared.Lowest.{Lowest}
 use Rattle.bits.specs.declared.Lowest.the-variants.{At, Nowhere}
 use Rattle.bits.specs.Bits.{countOnes, lowestIn}
-use Rattle.bits.specs.Timers.{countedDown, vectorByte, vectorsDiffer}
+use Rattle.timers.specs.Timers.{countedDown, vectorByte, vectorsDiffer}
 use Rattle.pnc.specs.Pnc.{numberIn, numberOrZero, rangeOf}
 use Rattle.config.specs.declared.Config.{Config}
 use Rattle.config.specs.declared.Ticks.{Ticks}
-use Rattle.config.specs.Rules.{firstBroken, ticksFor}
-use Rattle.decision.specs.declared.state.State.the-variants.{BusSleep}
-use Rattle.decision.specs.declared.state.Mode.{Mode}
-use Rattle.decision.specs.declared.state.Traffic.{Traffic}
+use Rattle.rules.specs.Rules.{firstBroken, ticksFor}
+use Rattle.states.specs.declared.State.the-variants.{BusSleep}
+use Rattle.states.specs.declared.Mode.{Mode}
+use Rattle.states.specs.declared.Traffic.{Traffic}
 use Rattle.channel.specs.declared.state.Own.{Own}
 use Rattle.channel.specs.declared.state.Channel.{Channel}
 use Rattle.channel.specs.declared.state.Notes.{Notes}
-use Rattle.decision.specs.declared.state.Note.{Note}
-use Rattle.decision.specs.declared.state.Note.the-variants.{Nothing}
+use Rattle.states.specs.declared.Note.{Note}
+use Rattle.states.specs.declared.Note.the-variants.{Nothing}
 use Rattle.channel.specs.declared.state.Reply.{Reply}
 use Rattle.channel.specs.declared.state.Started.{Started}
 use Rattle.channel.specs.declared.state.Status.{Status}
-use Rattle.decision.specs.State.{stateNumber}
+use Rattle.states.specs.State.{stateNumber}
 use Rattle.decision.specs.declared.Rule
 use Rattle.decision.specs.declared.Rule.the-variants.{Keep}
 use Rattle.decision.specs.Decision.{Call, networkRequest, networkRelease, passiveStartUp, repeatMessageRequest, disableCommunication, enableCommunication, txConfirmation, rxIndication, confirmPnAvailability, setUserData, setPnRequests, status, mainFunction, ruleOf}
-use Rattle.modes.specs.Mode.{mode, modeBy}
-use Rattle.traffic.specs.Traffic.{traffic, trafficBy, setupOf, framing, isDue}
+use Rattle.modes.specs.Mode.{mode}
+use Rattle.transitions.specs.Transitions.{modeBy, trafficBy}
+use Rattle.traffic.specs.Traffic.{traffic, setupOf}
+use Rattle.sending.specs.Sending.{framing, isDue}
 use Rattle.notes.specs.Notes.{firstBy, secondBy}
 use Rattle.soundness.specs.Sound.{soundOf}
 use Rattle.frames.specs.Frames.{accepted, asksRepeat, framed, loadedBy, sentLoaded}
-use Rattle.decision.specs.Refusals.{refusal, isDone, judged}
+use Rattle.refusals.specs.Refusals.{refusal, isDone, judged}
 
 abbrev pub notes : Note → Note → Bool → Bool → Notes
 notes first second ei er = record { first = first; second = second; eira = ei; era = er }

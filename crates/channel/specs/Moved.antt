@@ -7,17 +7,17 @@ use Rattle.config.specs.declared.Config.{Config}
 use Rattle.config.specs.declared.Ticks.{Ticks}
 use Rattle.channel.specs.declared.state.Channel.{Channel}
 use Rattle.channel.specs.declared.state.Effect.{Effect}
-use Rattle.decision.specs.declared.state.Mode.{Mode}
-use Rattle.decision.specs.declared.state.Note.{Note}
-use Rattle.decision.specs.declared.state.Traffic.{Traffic}
+use Rattle.states.specs.declared.Mode.{Mode}
+use Rattle.states.specs.declared.Note.{Note}
+use Rattle.states.specs.declared.Traffic.{Traffic}
 use Rattle.channel.specs.declared.state.Reply.{Reply}
 use Rattle.decision.specs.declared.Rule.{Rule}
-use Rattle.modes.specs.Mode.{modeBy}
-use Rattle.traffic.specs.Traffic.{trafficBy, setupOf}
+use Rattle.transitions.specs.Transitions.{modeBy, trafficBy}
+use Rattle.traffic.specs.Traffic.{setupOf}
 use Rattle.notes.specs.Notes.{firstBy, secondBy}
 use Rattle.decision.specs.declared.Rule.the-variants.{Keep}
 use Rattle.decision.specs.Decision.{isNotHere, ruleOf}
-use Rattle.decision.specs.Refusals.{firstOf, isDone, judged}
+use Rattle.refusals.specs.Refusals.{firstOf, isDone, judged}
 use Rattle.channel.specs.Channel.{refused, sound}
 use Rattle.channel.specs.Parts.{effect, replyOn}
 

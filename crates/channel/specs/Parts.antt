@@ -5,10 +5,10 @@ use mathlib.Core.List.{List}
 use Rattle.answers.specs.declared.Answer.{Answer}
 use Rattle.config.specs.declared.Config.{Config}
 use Rattle.config.specs.declared.Ticks.{Ticks}
-use Rattle.decision.specs.declared.state.Mode.{Mode}
-use Rattle.decision.specs.declared.state.Note.{Note}
-use Rattle.decision.specs.declared.state.Note.the-variants.{Nothing}
-use Rattle.decision.specs.declared.state.Traffic.{Traffic}
+use Rattle.states.specs.declared.Mode.{Mode}
+use Rattle.states.specs.declared.Note.{Note}
+use Rattle.states.specs.declared.Note.the-variants.{Nothing}
+use Rattle.states.specs.declared.Traffic.{Traffic}
 use Rattle.channel.specs.declared.state.Channel.{Channel}
 use Rattle.channel.specs.declared.state.Effect.{Effect}
 use Rattle.channel.specs.declared.state.Reply.{Reply}

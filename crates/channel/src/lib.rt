@@ -10,16 +10,16 @@ use config::Partial;
 use config::Ticks;
 use config::Times;
 use decision::Rule;
-use decision::state::Mode;
-use decision::state::Note;
-use decision::state::State;
-use decision::state::Traffic;
 use state::Channel;
 use state::Effect;
 use state::Notes;
 use state::Own;
 use state::Reply;
 use state::Started;
+use states::Mode;
+use states::Note;
+use states::State;
+use states::Traffic;
 ghost use mathlib.Core.Path.{_≡_};
 ghost use mathlib.Core.Bool.{false, true};
 ghost use Rattle.channel.specs.Channel.{fresh, freshMode, freshTraffic, initialised, refused, zero, zeroConfig, zeroTicks};
@@ -126,9 +126,9 @@ pub fn moved_to(
 ) -> Effect
     ensures { λ r. ⌜ r ≡ movedTo c t before old rule again ei er ⌝ }
 {
-    let after = modes::mode_by(rule, again, t, before);
+    let after = transitions::mode_by(rule, again, t, before);
     let s = traffic::setup_of(c, t);
-    let new = traffic::traffic_by(rule, again, s, before, after, old);
+    let new = transitions::traffic_by(rule, again, s, before, after, old);
     let first = notes::first_by(rule, before, after);
     let second = notes::second_by(rule, before, old);
     Effect {
@@ -310,10 +310,10 @@ impl Channel {
     pub fn initialise(c: Config) -> Started
         ensures { λ r. ⌜ r ≡ initialised c ⌝ }
     {
-        let rule = config::first_broken_rule(c);
+        let rule = rules::first_broken_rule(c);
         if rule == 0 {
             return Started {
-                channel: Channel::fresh(c, config::ticks_for(c)),
+                channel: Channel::fresh(c, rules::ticks_for(c)),
                 answer: Answer::Done,
             };
         }

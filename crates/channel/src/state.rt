@@ -2,9 +2,9 @@
 use answers::Answer;
 use config::Config;
 use config::Ticks;
-use decision::state::Mode;
-use decision::state::Note;
-use decision::state::Traffic;
+use states::Mode;
+use states::Note;
+use states::Traffic;
 
 // A channel without EIRA, whose timers are the only part that no rule of the channel reads.
 pub struct Own {

@@ -3,7 +3,7 @@ use Prim.Native.Nat.{ℕ, _+_, _*_}
 use mathlib.Core.Bool.{Bool, true, false}
 use mathlib.Core.List.{List, [], _∷_}
 use lib.ListN.{getD}
-use Rattle.decision.specs.declared.state.State.{State}
+use Rattle.states.specs.declared.State.{State}
 use Rattle.decision.specs.declared.Rule.{Rule}
 use Rattle.decision.specs.declared.Rule.the-variants.{
   Keep,
@@ -28,7 +28,7 @@ use Rattle.decision.specs.declared.Rule.the-variants.{
   TickInNormal,
   TickInReady,
 }
-use Rattle.decision.specs.State.{stateNumber}
+use Rattle.states.specs.State.{stateNumber}
 
 -- The calls with their arguments. The main function, the tick, has the driver's word that it takes a frame and the length of
 -- the lent frame.

@@ -1,3 +1,1 @@
-pub mod State
 pub mod Decision
-pub mod Refusals

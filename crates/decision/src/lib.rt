@@ -1,14 +1,10 @@
-// The states and the calls by their numbers, and which transition rule a call brings in a state: one decision over both.
+// The calls by their numbers, and which transition rule a call brings in a state: one decision over both.
 //
-// Promises: each function is a definition of specs/, which also says what a call is refused with. Leaves to others: what
-// a rule does (`modes`, `traffic`).
-pub mod refusals;
-pub mod state;
-
-use self::state::State;
+// Promises: each function is a definition of specs/. Leaves to others: the states (`states`), what a rule does
+// (`transitions`), and what a call is refused with (`refusals`).
+use states::State;
 ghost use mathlib.Core.Path.{_≡_};
 ghost use Prim.Native.Nat.{_+_, _*_};
-ghost use Rattle.decision.specs.State.{stateNumber, inNetwork, isBusSleep, isNormal, isPrepare, isRepeat, settled, transmits};
 ghost use mathlib.Core.Bool.{cond};
 ghost use Rattle.decision.specs.declared.Rule.the-variants.{Keep};
 ghost use Rattle.decision.specs.Decision.{isNotHere, ruleAt, ruleOf};
@@ -129,106 +125,6 @@ pub fn rule_at(key: u8) -> Rule
     }
 }
 
-// The number of a state.
-pub fn state_number(s: State) -> u8
-    ensures { λ r. ⌜ r ≡ stateNumber s ⌝ }
-{
-    match s {
-        State::BusSleep => 0,
-        State::PrepareBusSleep => 1,
-        State::RepeatMessage => 2,
-        State::NormalOperation => 3,
-        State::ReadySleep => 4,
-    }
-}
-
-// Is it Network Mode?
-pub fn in_network(s: State) -> bool
-    ensures { λ r. ⌜ r ≡ inNetwork s ⌝ }
-{
-    match s {
-        State::BusSleep => false,
-        State::PrepareBusSleep => false,
-        State::RepeatMessage => true,
-        State::NormalOperation => true,
-        State::ReadySleep => true,
-    }
-}
-
-// Does an active channel send in it?
-pub fn transmits(s: State) -> bool
-    ensures { λ r. ⌜ r ≡ transmits s ⌝ }
-{
-    match s {
-        State::BusSleep => false,
-        State::PrepareBusSleep => false,
-        State::RepeatMessage => true,
-        State::NormalOperation => true,
-        State::ReadySleep => false,
-    }
-}
-
-// Is it Normal Operation or Ready Sleep?
-pub fn settled(s: State) -> bool
-    ensures { λ r. ⌜ r ≡ settled s ⌝ }
-{
-    match s {
-        State::BusSleep => false,
-        State::PrepareBusSleep => false,
-        State::RepeatMessage => false,
-        State::NormalOperation => true,
-        State::ReadySleep => true,
-    }
-}
-
-pub fn is_bus_sleep(s: State) -> bool
-    ensures { λ r. ⌜ r ≡ isBusSleep s ⌝ }
-{
-    match s {
-        State::BusSleep => true,
-        State::PrepareBusSleep => false,
-        State::RepeatMessage => false,
-        State::NormalOperation => false,
-        State::ReadySleep => false,
-    }
-}
-
-pub fn is_prepare(s: State) -> bool
-    ensures { λ r. ⌜ r ≡ isPrepare s ⌝ }
-{
-    match s {
-        State::BusSleep => false,
-        State::PrepareBusSleep => true,
-        State::RepeatMessage => false,
-        State::NormalOperation => false,
-        State::ReadySleep => false,
-    }
-}
-
-pub fn is_repeat(s: State) -> bool
-    ensures { λ r. ⌜ r ≡ isRepeat s ⌝ }
-{
-    match s {
-        State::BusSleep => false,
-        State::PrepareBusSleep => false,
-        State::RepeatMessage => true,
-        State::NormalOperation => false,
-        State::ReadySleep => false,
-    }
-}
-
-pub fn is_normal(s: State) -> bool
-    ensures { λ r. ⌜ r ≡ isNormal s ⌝ }
-{
-    match s {
-        State::BusSleep => false,
-        State::PrepareBusSleep => false,
-        State::RepeatMessage => false,
-        State::NormalOperation => true,
-        State::ReadySleep => false,
-    }
-}
-
 // Is the call not for the state?
 pub fn is_not_here(rule: Rule) -> bool
     ensures { λ r. ⌜ r ≡ isNotHere rule ⌝ }
@@ -263,7 +159,7 @@ pub fn rule_of(s: State, call: u8) -> Rule
     ensures { λ r. ⌜ r ≡ ruleOf s call ⌝ }
 {
     if call < 13 {
-        return rule_at(5 * call + state_number(s));
+        return rule_at(5 * call + states::state_number(s));
     }
     Rule::Keep
 }

@@ -4,7 +4,7 @@ use mathlib.Core.Bool.{Bool, true, false, cond}
 use mathlib.Core.List.{List}
 use Prim.Native.Nat.{ℕ}
 use Rattle.decision.specs.Decision.{Call}
-use Rattle.decision.specs.Refusals.{isDone}
+use Rattle.refusals.specs.Refusals.{isDone}
 use Rattle.config.specs.declared.Config.{Config}
 use Rattle.config.specs.declared.Ticks.{Ticks}
 use Rattle.channel.specs.declared.state.Channel.{Channel}

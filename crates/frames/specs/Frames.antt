@@ -4,13 +4,13 @@ use mathlib.Core.Bool.{Bool, cond, not, _||_}
 use mathlib.Core.List.{List}
 use lib.ListN.{take, drop}
 use Rattle.bits.specs.Bits.{bitOf}
-use Rattle.bits.specs.Timers.{countedDown, loadedWhere}
+use Rattle.timers.specs.Timers.{countedDown, loadedWhere}
 use Rattle.config.specs.declared.Config.{Config}
 use Rattle.config.specs.Ranges.{userLengthOf}
 use Rattle.layout.specs.Fields.{fields}
 use Rattle.layout.specs.Layout.{byteAt, frameOf}
 use Rattle.filter.specs.Filter.{informs, keeps}
-use Rattle.decision.specs.declared.state.Traffic.{Traffic}
+use Rattle.states.specs.declared.Traffic.{Traffic}
 
 -- the control bit vector; with none all its bits read 0
 abbrev pub cbvOf : Config → List ℕ → ℕ

@@ -3,12 +3,12 @@
 // Promises: each function is a definition of specs/; lent bytes are given whole. Leaves to others: where a field stands
 // (`layout`), which PN bytes keep a PDU (`filter`), and when a frame is sent (`traffic`).
 use config::Config;
-use decision::state::Traffic;
+use states::Traffic;
 ghost use mathlib.Core.Path.{_≡_};
 ghost use mathlib.Core.Bool.{cond};
 ghost use Prim.Native.Nat.{_≤_};
 ghost use lib.Seq.{sets};
-ghost use Rattle.bits.specs.Timers.{countedDown, loadedWhere, vectorsDiffer};
+ghost use Rattle.timers.specs.Timers.{countedDown, loadedWhere, vectorsDiffer};
 ghost use Rattle.filter.specs.Filter.{keeps};
 ghost use Rattle.frames.specs.Frames.{accepted, asksRepeat, cbvSent, framed, loadedBy, sentLoaded};
 
@@ -17,19 +17,19 @@ ghost use Rattle.frames.specs.Frames.{accepted, asksRepeat, cbvSent, fra
 fn load<'a>(bytes: &'a [u8], mask: &'a [u8; 8], reset: u16, timers: &mut [u16; 56])
     ensures { λ r. ⌜ now (timers .exit) ≡ loadedWhere (now (bytes .entry)) (now (mask .entry)) reset (now (timers .entry)) ⌝ }
 {
-    bits::load_where(bytes, mask, reset, timers);
+    timers::load_where(bytes, mask, reset, timers);
 }
 
 fn differ(a: &[u16; 56], b: &[u16; 56]) -> bool
     ensures { λ r. ⌜ r ≡ vectorsDiffer (now (a .entry)) (now (b .entry)) ⌝ }
 {
-    bits::vectors_differ(a, b)
+    timers::vectors_differ(a, b)
 }
 
 pub fn count_down(timers: &mut [u16; 56]) -> bool
     ensures { λ r. ⌜ (now (timers .exit) ≡ countedDown (now (timers .entry))) × (r ≡ vectorsDiffer (now (timers .entry)) (countedDown (now (timers .entry)))) ⌝ }
 {
-    bits::count_down(timers)
+    timers::count_down(timers)
 }
 
 pub fn store(bytes: &[u8], dst: &mut [u8; 8])

@@ -8,8 +8,8 @@ use channel::state::Reply;
 use config::Config;
 use config::Ticks;
 use decision::Rule;
-use decision::state::Mode;
-use decision::state::Traffic;
+use states::Mode;
+use states::Traffic;
 ghost use mathlib.Core.Path.{_≡_};
 ghost use mathlib.Core.List.{List};
 ghost use Prim.Native.Nat.{ℕ};
@@ -36,8 +36,8 @@ pub fn rx_indication_in_place(
     let state = m.state;
     let rule = decision::rule_of(state, decision::RX_INDICATION);
     let size = choice::negation(pdu.len() as u64 == c.layout.length);
-    let a = decision::refusals::judge(ok, false, false, decision::is_not_here(rule), size);
-    if decision::refusals::is_done(a) {
+    let a = refusals::judge(ok, false, false, decision::is_not_here(rule), size);
+    if refusals::is_done(a) {
         if frames::accepted(c, m.filter, pdu) {
             let again = frames::asks_repeat(c, pdu);
             let er = frames::load_heard(c, t.reset, pdu, era);
@@ -74,8 +74,8 @@ pub fn set_user_data(mut ch: Channel, bytes: &[u8]) -> Reply
     let ok = soundness::sound(c, ch.own.ticks, m, ch.own.traffic, &ch.own.era, &ch.eira);
     let rule = decision::rule_of(state, decision::SET_USER_DATA);
     let size = choice::negation(bytes.len() as u64 == config::user_length(c));
-    let a = decision::refusals::judge(ok, c.passive, false, decision::is_not_here(rule), size);
-    if decision::refusals::is_done(a) {
+    let a = refusals::judge(ok, c.passive, false, decision::is_not_here(rule), size);
+    if refusals::is_done(a) {
         frames::store(bytes, &mut ch.own.user);
         return channel::moved(ch, rule, false, false, false);
     }
@@ -93,8 +93,8 @@ pub fn set_pn_requests(mut ch: Channel, bytes: &[u8]) -> Reply
     let rule = decision::rule_of(state, decision::SET_PN_REQUESTS);
     let off = choice::negation(c.pn.on);
     let size = choice::negation(bytes.len() as u64 == c.pn.length);
-    let a = decision::refusals::judge(ok, c.passive, off, decision::is_not_here(rule), size);
-    if decision::refusals::is_done(a) {
+    let a = refusals::judge(ok, c.passive, off, decision::is_not_here(rule), size);
+    if refusals::is_done(a) {
         frames::store(bytes, &mut ch.own.requests);
         return channel::moved(ch, rule, false, false, false);
     }

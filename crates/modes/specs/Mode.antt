@@ -3,39 +3,15 @@ use Prim.Native.Nat.{ℕ, _-_}
 use mathlib.Core.Bool.{Bool, true, false, cond}
 use lib.Dec.{leb, eqb}
 use Rattle.config.specs.declared.Ticks.{Ticks}
-use Rattle.decision.specs.declared.state.State.{State}
-use Rattle.decision.specs.declared.state.State.the-variants.{
+use Rattle.states.specs.declared.State.{State}
+use Rattle.states.specs.declared.State.the-variants.{
   BusSleep,
   PrepareBusSleep,
   RepeatMessage,
   NormalOperation,
   ReadySleep,
 }
-use Rattle.decision.specs.declared.state.Mode.{Mode}
-use Rattle.decision.specs.declared.Rule.{Rule}
-use Rattle.decision.specs.declared.Rule.the-variants.{
-  Keep,
-  NotHere,
-  WakeUp,
-  ActiveWakeUp,
-  Request,
-  ToNormal,
-  Release,
-  ToReady,
-  Repeat,
-  Disable,
-  Enable,
-  Confirm,
-  Start,
-  HeardInRepeat,
-  HeardInNormal,
-  HeardInReady,
-  FilterOn,
-  TickInPrepare,
-  TickInRepeat,
-  TickInNormal,
-  TickInReady,
-}
+use Rattle.states.specs.declared.Mode.{Mode}
 
 abbrev pub mode : State → Bool → Bool → Bool → ℕ → ℕ → ℕ → Mode
 mode s r e f n w q = record { state = s; requested = r; sending = e; filter = f; nm = n; wait = w; repeat = q }
@@ -108,27 +84,3 @@ repeatInRepeat m =
     (m .nm)
     (m .wait)
     (m .repeat - 1)
-
--- ---- the rules; `again` says that a PDU asks for Repeat
-unfoldable pub modeBy : Rule → Bool → Ticks → Mode → Mode
-modeBy Keep again t m = m
-modeBy NotHere again t m = m
-modeBy WakeUp again t m = enterNetwork t m
-modeBy ActiveWakeUp again t m = enterNetwork t (withRequested true m)
-modeBy Request again t m = withRequested true m
-modeBy ToNormal again t m = withState NormalOperation (withRequested true m)
-modeBy Release again t m = withRequested false m
-modeBy ToReady again t m = withState ReadySleep (withRequested false m)
-modeBy Repeat again t m = enterRepeat t m
-modeBy Disable again t m = withSending false m
-modeBy Enable again t m = enabled t m
-modeBy Confirm again t m = restart t m
-modeBy Start again t m = m
-modeBy HeardInRepeat again t m = restart t m
-modeBy HeardInNormal again t m = heard again t m
-modeBy HeardInReady again t m = heard again t m
-modeBy FilterOn again t m = withFilter true m
-modeBy TickInPrepare again t m = waitInPrepare m
-modeBy TickInRepeat again t m = repeatInRepeat (nmInRepeatOrNormal t m)
-modeBy TickInNormal again t m = nmInRepeatOrNormal t m
-modeBy TickInReady again t m = nmInReady t m

@@ -3,9 +3,8 @@
 // Promises: each function is a definition of specs/. Leaves to others: which rule it is (`decision`), and all that never
 // decides the state (`traffic`).
 use config::Ticks;
-use decision::Rule;
-use decision::state::Mode;
-use decision::state::State;
+use states::Mode;
+use states::State;
 ghost use mathlib.Core.Path.{_≡_};
 ghost use mathlib.Core.Bool.{true, false};
 ghost use Rattle.modes.specs.Mode.{
@@ -13,7 +12,6 @@ ghost use Rattle.modes.specs.Mode.{
   enterNetwork,
   enterRepeat,
   heard,
-  modeBy,
   nmInReady,
   nmInRepeatOrNormal,
   prepared,
@@ -40,7 +38,7 @@ pub fn with_state(m: Mode, s: State) -> Mode
 
 // ---- entering
 
-fn enter_repeat(t: Ticks, m: Mode) -> Mode
+pub fn enter_repeat(t: Ticks, m: Mode) -> Mode
     ensures { λ r. ⌜ r ≡ enterRepeat t m ⌝ }
 {
     let mut n = with_state(m, State::RepeatMessage);
@@ -48,7 +46,7 @@ fn enter_repeat(t: Ticks, m: Mode) -> Mode
     n
 }
 
-fn enter_network(t: Ticks, m: Mode) -> Mode
+pub fn enter_network(t: Ticks, m: Mode) -> Mode
     ensures { λ r. ⌜ r ≡ enterNetwork t m ⌝ }
 {
     let mut n = m;
@@ -57,7 +55,7 @@ fn enter_network(t: Ticks, m: Mode) -> Mode
     enter_repeat(t, n)
 }
 
-fn restart(t: Ticks, m: Mode) -> Mode
+pub fn restart(t: Ticks, m: Mode) -> Mode
     ensures { λ r. ⌜ r ≡ restart t m ⌝ }
 {
     let mut n = m;
@@ -65,7 +63,7 @@ fn restart(t: Ticks, m: Mode) -> Mode
     n
 }
 
-fn heard(again: bool, t: Ticks, m: Mode) -> Mode
+pub fn heard(again: bool, t: Ticks, m: Mode) -> Mode
     ensures { λ r. ⌜ r ≡ heard again t m ⌝ }
 {
     if again {
@@ -74,7 +72,7 @@ fn heard(again: bool, t: Ticks, m: Mode) -> Mode
     restart(t, m)
 }
 
-fn enabled(t: Ticks, m: Mode) -> Mode
+pub fn enabled(t: Ticks, m: Mode) -> Mode
     ensures { λ r. ⌜ r ≡ enabled t m ⌝ }
 {
     let mut n = m;
@@ -86,12 +84,12 @@ fn enabled(t: Ticks, m: Mode) -> Mode
 // ---- the tick
 
 // Step a in Repeat Message and Normal Operation.
-fn nm_in_repeat_or_normal(t: Ticks, m: Mode) -> Mode
+pub fn nm_in_repeat_or_normal(t: Ticks, m: Mode) -> Mode
     ensures { λ r. ⌜ r ≡ nmInRepeatOrNormal t m ⌝ }
 {
     let mut n = m;
     if m.sending {
-        n.nm = choice::pick16(m.nm <= 1, t.timeout, bits::down(m.nm));
+        n.nm = choice::pick16(m.nm <= 1, t.timeout, ticks::down(m.nm));
         return n;
     }
     n
@@ -107,7 +105,7 @@ fn prepared(t: Ticks, m: Mode) -> Mode
 }
 
 // Step a in Ready Sleep.
-fn nm_in_ready(t: Ticks, m: Mode) -> Mode
+pub fn nm_in_ready(t: Ticks, m: Mode) -> Mode
     ensures { λ r. ⌜ r ≡ nmInReady t m ⌝ }
 {
     if m.sending {
@@ -115,18 +113,18 @@ fn nm_in_ready(t: Ticks, m: Mode) -> Mode
             return prepared(t, m);
         }
         let mut n = m;
-        n.nm = bits::down(m.nm);
+        n.nm = ticks::down(m.nm);
         return n;
     }
     m
 }
 
 // Step b.
-fn wait_in_prepare(m: Mode) -> Mode
+pub fn wait_in_prepare(m: Mode) -> Mode
     ensures { λ r. ⌜ r ≡ waitInPrepare m ⌝ }
 {
     let mut n = m;
-    n.wait = bits::down(m.wait);
+    n.wait = ticks::down(m.wait);
     if m.wait == 1 {
         return with_state(n, State::BusSleep);
     }
@@ -134,11 +132,11 @@ fn wait_in_prepare(m: Mode) -> Mode
 }
 
 // Step c.
-fn repeat_in_repeat(m: Mode) -> Mode
+pub fn repeat_in_repeat(m: Mode) -> Mode
     ensures { λ r. ⌜ r ≡ repeatInRepeat m ⌝ }
 {
     let mut n = m;
-    n.repeat = bits::down(m.repeat);
+    n.repeat = ticks::down(m.repeat);
     if m.repeat <= 1 {
         if m.requested {
             return with_state(n, State::NormalOperation);
@@ -146,57 +144,4 @@ fn repeat_in_repeat(m: Mode) -> Mode
         return with_state(n, State::ReadySleep);
     }
     n
-}
-
-// ---- the rules
-
-// The mode after a rule; `again` says that a PDU asks for Repeat Message.
-pub fn mode_by(rule: Rule, again: bool, t: Ticks, m: Mode) -> Mode
-    ensures { λ r. ⌜ r ≡ modeBy rule again t m ⌝ }
-{
-    let mut n = m;
-    match rule {
-        Rule::Keep => m,
-        Rule::NotHere => m,
-        Rule::WakeUp => enter_network(t, m),
-        Rule::ActiveWakeUp => {
-            n.requested = true;
-            enter_network(t, n)
-        }
-        Rule::Request => {
-            n.requested = true;
-            n
-        }
-        Rule::ToNormal => {
-            n.requested = true;
-            with_state(n, State::NormalOperation)
-        }
-        Rule::Release => {
-            n.requested = false;
-            n
-        }
-        Rule::ToReady => {
-            n.requested = false;
-            with_state(n, State::ReadySleep)
-        }
-        Rule::Repeat => enter_repeat(t, m),
-        Rule::Disable => {
-            n.sending = false;
-            n
-        }
-        Rule::Enable => enabled(t, m),
-        Rule::Confirm => restart(t, m),
-        Rule::Start => m,
-        Rule::HeardInRepeat => restart(t, m),
-        Rule::HeardInNormal => heard(again, t, m),
-        Rule::HeardInReady => heard(again, t, m),
-        Rule::FilterOn => {
-            n.filter = true;
-            n
-        }
-        Rule::TickInPrepare => wait_in_prepare(m),
-        Rule::TickInRepeat => repeat_in_repeat(nm_in_repeat_or_normal(t, m)),
-        Rule::TickInNormal => nm_in_repeat_or_normal(t, m),
-        Rule::TickInReady => nm_in_ready(t, m),
-    }
 }

@@ -1,10 +1,10 @@
 -- The notes that each transition rule raises, and their order. Assumes nothing.
 use mathlib.Core.Bool.{Bool, cond, _&&_}
 use lib.Dec.{leb, ltb}
-use Rattle.decision.specs.declared.state.Mode.{Mode}
-use Rattle.decision.specs.declared.state.Traffic.{Traffic}
-use Rattle.decision.specs.declared.state.Note.{Note}
-use Rattle.decision.specs.declared.state.Note.the-variants.{
+use Rattle.states.specs.declared.Mode.{Mode}
+use Rattle.states.specs.declared.Traffic.{Traffic}
+use Rattle.states.specs.declared.Note.{Note}
+use Rattle.states.specs.declared.Note.the-variants.{
   Nothing,
   NetworkMode,
   NetworkStart,
@@ -38,7 +38,7 @@ use Rattle.decision.specs.declared.Rule.the-variants.{
   TickInNormal,
   TickInReady,
 }
-use Rattle.decision.specs.State.{isBusSleep, isPrepare}
+use Rattle.states.specs.State.{isBusSleep, isPrepare}
 
 abbrev pub noted : Bool → Note → Note
 noted t n = cond t n Nothing

@@ -2,11 +2,11 @@
 //
 // Promises: each function is a definition of specs/. Leaves to others: EI and ER, which close a call (`channel`).
 use decision::Rule;
-use decision::is_bus_sleep;
-use decision::is_prepare;
-use decision::state::Mode;
-use decision::state::Note;
-use decision::state::Traffic;
+use states::Mode;
+use states::Note;
+use states::Traffic;
+use states::is_bus_sleep;
+use states::is_prepare;
 ghost use mathlib.Core.Path.{_≡_};
 ghost use Rattle.notes.specs.Notes.{cancelled, firstBy, noted, remoteSleeps, secondBy, timedOut};
 

@@ -9,8 +9,8 @@ use lib.Dec.{eqb}
 use lib.ListN.{length, length-append}
 use Rattle.print.specs.Print.{Wrote}
 use Rattle.print.proofs.Wrote.{then}
-use Rattle.decision.specs.declared.state.Note.{Note}
-use Rattle.decision.specs.declared.state.Note.the-variants as notes
+use Rattle.states.specs.declared.Note.{Note}
+use Rattle.states.specs.declared.Note.the-variants as notes
 use Rattle.channel.specs.declared.state.Notes.{Notes}
 use Rattle.notes_text.specs.NotesText.{addWord, changeWord, dashed, letterEi, letterEr, notesMost, notesText, piece, wordOf, words}
 

@@ -5,8 +5,8 @@ use mathlib.Core.List.{List, [], _∷_, _++_}
 use lib.Dec.{eqb}
 use lib.ListN.{length}
 use Rattle.print.specs.Print.{dash}
-use Rattle.decision.specs.declared.state.Note.{Note}
-use Rattle.decision.specs.declared.state.Note.the-variants as notes
+use Rattle.states.specs.declared.Note.{Note}
+use Rattle.states.specs.declared.Note.the-variants as notes
 use Rattle.channel.specs.declared.state.Notes.{Notes}
 
 -- the byte between two notes

@@ -3,7 +3,7 @@
 // Promises: the text of specs/NotesText in the lent buffer from a place on, and no other byte changed. Leaves to others:
 // which notes there are (`channel`), the line around them (`report`), and that the buffer has room.
 use channel::state::Notes;
-use decision::state::Note;
+use states::Note;
 ghost use mathlib.Core.Path.{_≡_};
 ghost use mathlib.Core.List.{[], _∷_};
 ghost use Prim.Native.Nat.{_+_, _≤_, _<_};

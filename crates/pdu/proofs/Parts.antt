@@ -12,9 +12,9 @@ use Rattle.bytes.proofs.Bytes.{sets-over}
 use Rattle.choice.proofs.Tests.{and-left, and-right}
 use Rattle.config.specs.declared.Config.{Config}
 use Rattle.config.specs.Ranges.{userStartOf, userLengthOf}
-use Rattle.config.specs.Rules.{firstBroken}
-use Rattle.config.proofs.Passes.{passes}
-use Rattle.config.proofs.Layouts.{filled-by}
+use Rattle.rules.specs.Rules.{firstBroken}
+use Rattle.rules.proofs.Passes.{passes}
+use Rattle.rules.proofs.Layouts.{filled-by}
 use Rattle.layout.specs.Fields.{fields}
 use Rattle.layout.specs.Layout.{byteAt, fieldsOf, ofLengths}
 

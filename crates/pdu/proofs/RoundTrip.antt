@@ -16,9 +16,9 @@ use Rattle.answers.specs.declared.Answer.{Answer}
 use Rattle.answers.specs.declared.Answer.the-variants.{Done, Rule, Length}
 use Rattle.config.specs.declared.Config.{Config}
 use Rattle.config.specs.Ranges.{off, headerLength, userStartOf, userLengthOf}
-use Rattle.config.specs.Rules.{firstBroken}
-use Rattle.config.proofs.Passes.{passes}
-use Rattle.config.proofs.Layouts.{Header, none, sni-alone, cbv-alone, sni-first, cbv-first, headed, Filled, filled-by, Stands, covers}
+use Rattle.rules.specs.Rules.{firstBroken}
+use Rattle.rules.proofs.Passes.{passes}
+use Rattle.rules.proofs.Layouts.{Header, none, sni-alone, cbv-alone, sni-first, cbv-first, headed, Filled, filled-by, Stands, covers}
 use Rattle.layout.specs.Fields.{Fields, fields}
 use Rattle.layout.specs.Layout.{byteAt, fieldsOf, frameOf, ofLengths, putByte}
 use Rattle.pdu.specs.Pdu.{composed, composing, reading, taken}

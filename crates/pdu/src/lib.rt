@@ -17,7 +17,7 @@ ghost use Rattle.pdu.specs.Pdu.{composed, composing, headerReading, read
 pub fn compose(c: Config, sni: u8, cbv: u8, pn: &[u8], user: &[u8], frame: &mut [u8]) -> Answer
     ensures { λ r. ⌜ composed r (now (frame .exit)) ≡ composing c (fields sni cbv (now (pn .entry)) (now (user .entry))) (now (frame .entry)) ⌝ }
 {
-    let rule = config::first_broken_rule(c);
+    let rule = rules::first_broken_rule(c);
     if rule == 0 {
         if choice::both(
             layout::of_lengths(c, pn.len(), user.len()),
@@ -44,7 +44,7 @@ pub struct Reading {
 pub fn read(c: Config, pdu: &[u8], pn: &mut [u8], user: &mut [u8]) -> Reading
     ensures { λ r. ⌜ taken (r .answer) (fields (r .sni) (r .cbv) (now (pn .exit)) (now (user .exit))) ≡ reading c (now (pdu .entry)) (now (pn .entry)) (now (user .entry)) ⌝ }
 {
-    let rule = config::first_broken_rule(c);
+    let rule = rules::first_broken_rule(c);
     if rule == 0 {
         if choice::both(
             layout::of_lengths(c, pn.len(), user.len()),
@@ -75,7 +75,7 @@ pub fn read(c: Config, pdu: &[u8], pn: &mut [u8], user: &mut [u8]) -> Reading
 pub fn read_header(l: Layout, pdu: &[u8]) -> Reading
     ensures { λ r. ⌜ taken (r .answer) (fields (r .sni) (r .cbv) [] []) ≡ headerReading l (now (pdu .entry)) ⌝ }
 {
-    let rule = config::first_broken_of_header(l);
+    let rule = rules::first_broken_of_header(l);
     if rule == 0 {
         if pdu.len() as u64 == l.length {
             return Reading {

@@ -17,9 +17,9 @@ use Rattle.commands.specs.declared.Asked.the-variants.{Unreadable, Call}
 use Rattle.commands.specs.Commands.{Reading, reading}
 use Rattle.config.specs.declared.Config.{Config}
 use Rattle.config.specs.declared.Ticks.{Ticks}
-use Rattle.decision.specs.declared.state.Mode.{Mode}
-use Rattle.decision.specs.declared.state.Note.the-variants.{Nothing}
-use Rattle.decision.specs.declared.state.Traffic.{Traffic}
+use Rattle.states.specs.declared.Mode.{Mode}
+use Rattle.states.specs.declared.Note.the-variants.{Nothing}
+use Rattle.states.specs.declared.Traffic.{Traffic}
 use Rattle.print.specs.Print.{Wrote}
 use Rattle.report.specs.Report.{letterOf, lineText}
 use Rattle.dispatch.specs.Calls.{callOf, carriedOutBy}

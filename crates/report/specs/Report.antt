@@ -7,8 +7,8 @@ use lib.ListN.{length}
 use Rattle.fields.specs.Fields.{tab}
 use Rattle.print.specs.Print.{dash, digitsMost, hexText, numberText}
 use Rattle.text.specs.Lines.{lineFeed}
-use Rattle.decision.specs.declared.state.State.{State}
-use Rattle.decision.specs.declared.state.State.the-variants as states
+use Rattle.states.specs.declared.State.{State}
+use Rattle.states.specs.declared.State.the-variants as states
 use Rattle.channel.specs.declared.state.Notes.{Notes}
 use Rattle.notes_text.specs.NotesText.{notesMost, notesText}
 

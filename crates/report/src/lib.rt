@@ -4,7 +4,7 @@
 // the text of the notes (`notes_text`), what a line's answer is (`trace`), and that the buffer has room. The caller counts
 // the room once for all bytes of a line (`length-line`), so that no writer tests it byte by byte.
 use channel::state::Notes;
-use decision::state::State;
+use states::State;
 ghost use mathlib.Core.Path.{_≡_};
 ghost use Prim.Native.Nat.{_+_, _*_, _≤_};
 ghost use lib.ListN.{length};

@@ -8,9 +8,9 @@ use mathlib.Core.Logic.{_↔_}
 use native.Mathlib.Omega.{arith}
 use Rattle.config.specs.declared.Config.{Config}
 use Rattle.config.specs.declared.Ticks.{Ticks}
-use Rattle.decision.specs.declared.state.State.{State}
-use Rattle.decision.specs.declared.state.State.the-variants.{BusSleep}
-use Rattle.decision.specs.declared.state.Mode.{Mode}
+use Rattle.states.specs.declared.State.{State}
+use Rattle.states.specs.declared.State.the-variants.{BusSleep}
+use Rattle.states.specs.declared.Mode.{Mode}
 use Rattle.decision.specs.Decision.{
   Call,
   networkRequest,
@@ -28,7 +28,7 @@ use Rattle.decision.specs.Decision.{
   mainFunction,
 }
 use Rattle.modes.specs.Mode.{mode}
-use Rattle.decision.specs.Refusals.{refusal, refusedPassive, refusedPnOff, refusedState, refusedLength, firstOf, isDone}
+use Rattle.refusals.specs.Refusals.{refusal, refusedPassive, refusedPnOff, refusedState, refusedLength, firstOf, isDone}
 use Rattle.channel.specs.Channel.{freshMode, isTick, modeAfter}
 use Rattle.sleep.specs.Summary.{Since, none, ago, Summary, summary, blank, networkState, shown, raised, keepsAwake, sinceAfter, sendingAfter, turned, summarised, history}
 use Rattle.sleep.specs.Quiet.{answered}

@@ -9,7 +9,7 @@ use Rattle.ticks.specs.Ticks.{conversionOf, ticksOf}
 use Rattle.config.specs.declared.Config.{Config}
 use Rattle.config.specs.Bounds.{within}
 use Rattle.config.specs.Ranges.{headerLength}
-use Rattle.config.specs.Rules.{
+use Rattle.rules.specs.Rules.{
   firstBroken,
   firstBrokenBy,
   pnAbsent,
@@ -26,8 +26,8 @@ use Rattle.config.specs.Rules.{
   ticksFor,
   timesWithin,
 }
-use Rattle.decision.specs.declared.state.State.{State}
-use Rattle.decision.specs.declared.state.State.the-variants.{BusSleep, PrepareBusSleep, NormalOperation, ReadySleep}
+use Rattle.states.specs.declared.State.{State}
+use Rattle.states.specs.declared.State.the-variants.{BusSleep, PrepareBusSleep, NormalOperation, ReadySleep}
 use Rattle.decision.specs.Decision.{
   Call,
   disableCommunication,
@@ -38,7 +38,7 @@ use Rattle.decision.specs.Decision.{
   ruleAt,
   table,
 }
-use Rattle.decision.specs.Refusals.{refusal}
+use Rattle.refusals.specs.Refusals.{refusal}
 use Rattle.sleep.specs.Summary.{Since, Summary, ago, blank, history, shown, summarised, turned}
 use Rattle.sleep.specs.Quiet.{Quiet}
 use Rattle.sleep.specs.Sleep.{reached}

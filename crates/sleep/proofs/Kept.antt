@@ -7,16 +7,17 @@ use native.Mathlib.Omega.{arith}
 use borrow.Author.Tests.{lt-leb, ne-eqb}
 use Rattle.config.specs.declared.Config.{Config}
 use Rattle.config.specs.declared.Ticks.{Ticks}
-use Rattle.decision.specs.declared.state.State.{State}
-use Rattle.decision.specs.declared.state.State.the-variants.{BusSleep, PrepareBusSleep, NormalOperation, ReadySleep}
-use Rattle.decision.specs.declared.state.Mode.{Mode}
-use Rattle.decision.specs.declared.state.Traffic.{Traffic}
+use Rattle.states.specs.declared.State.{State}
+use Rattle.states.specs.declared.State.the-variants.{BusSleep, PrepareBusSleep, NormalOperation, ReadySleep}
+use Rattle.states.specs.declared.Mode.{Mode}
+use Rattle.states.specs.declared.Traffic.{Traffic}
 use Rattle.traffic.specs.declared.Setup.{Setup}
 use Rattle.decision.specs.Decision.{Call, networkRequest, networkRelease, passiveStartUp, repeatMessageRequest, disableCommunication, enableCommunication, txConfirmation, rxIndication, confirmPnAvailability, setUserData, setPnRequests, status, mainFunction, ruleAt, table}
-use Rattle.modes.specs.Mode.{modeBy, enterNetwork, enterRepeat, restart, heard, enabled, nmInRepeatOrNormal, prepared, nmInReady, waitInPrepare, repeatInRepeat}
-use Rattle.traffic.specs.Traffic.{inReady, inRepeat, setupOf, trafficBy}
+use Rattle.modes.specs.Mode.{enterNetwork, enterRepeat, restart, heard, enabled, nmInRepeatOrNormal, prepared, nmInReady, waitInPrepare, repeatInRepeat}
+use Rattle.transitions.specs.Transitions.{modeBy, trafficBy}
+use Rattle.traffic.specs.Traffic.{inReady, inRepeat, setupOf}
 use Rattle.frames.specs.Frames.{accepted, asksRepeat}
-use Rattle.decision.specs.Refusals.{refusedPassive, refusedState}
+use Rattle.refusals.specs.Refusals.{refusedPassive, refusedState}
 use Rattle.channel.specs.Channel.{againFor, modeAfter, ruleFor}
 use Rattle.sleep.specs.Summary.{Summary}
 use Rattle.sleep.proofs.Simulation.{Together, asleep, waiting, live, held, clash}

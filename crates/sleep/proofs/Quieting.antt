@@ -8,9 +8,9 @@ use lib.Dec.{ltb}
 use borrow.Author.Tests.{le-ltb}
 use Rattle.config.specs.declared.Config.{Config}
 use Rattle.config.specs.declared.Ticks.{Ticks}
-use Rattle.decision.specs.declared.state.State.the-variants.{BusSleep, PrepareBusSleep, ReadySleep}
-use Rattle.decision.specs.declared.state.Mode.{Mode}
-use Rattle.decision.specs.State.{transmits}
+use Rattle.states.specs.declared.State.the-variants.{BusSleep, PrepareBusSleep, ReadySleep}
+use Rattle.states.specs.declared.Mode.{Mode}
+use Rattle.states.specs.State.{transmits}
 use Rattle.decision.specs.Decision.{
   Call,
   networkRequest,
@@ -27,7 +27,7 @@ use Rattle.decision.specs.Decision.{
   status,
   mainFunction,
 }
-use Rattle.decision.specs.Refusals.{refusal, isDone}
+use Rattle.refusals.specs.Refusals.{refusal, isDone}
 use Rattle.channel.specs.Channel.{freshMode, isTick}
 use Rattle.sleep.specs.Summary.{Since, none, ago, Summary, summary, blank, shown, raised, hits, turned, summarised, history}
 use Rattle.sleep.specs.Quiet.{loud, answered, Quiet, countsOne, ticksIn}

@@ -8,26 +8,14 @@ use lib.Dec.{leb, eqb}
 use borrow.Author.Tests.{lt-ltb, le-ltb, eq-eqb, ne-eqb, lt-leb}
 use Rattle.config.specs.declared.Config.{Config}
 use Rattle.config.specs.declared.Ticks.{Ticks}
-use Rattle.decision.specs.declared.state.State.{State}
-use Rattle.decision.specs.declared.state.State.the-variants.{BusSleep, PrepareBusSleep, RepeatMessage}
-use Rattle.decision.specs.declared.state.Mode.{Mode}
+use Rattle.states.specs.declared.State.{State}
+use Rattle.states.specs.declared.State.the-variants.{BusSleep, PrepareBusSleep, RepeatMessage}
+use Rattle.states.specs.declared.Mode.{Mode}
 use Rattle.decision.specs.Decision.{Call, networkRequest, networkRelease, passiveStartUp, repeatMessageRequest, disableCommunication, enableCommunication, txConfirmation, rxIndication, confirmPnAvailability, setUserData, setPnRequests, status, mainFunction, ruleAt, table}
-use Rattle.modes.specs.Mode.{
-  mode,
-  modeBy,
-  enterNetwork,
-  enterRepeat,
-  restart,
-  heard,
-  enabled,
-  nmInRepeatOrNormal,
-  prepared,
-  nmInReady,
-  waitInPrepare,
-  repeatInRepeat,
-}
+use Rattle.modes.specs.Mode.{mode, enterNetwork, enterRepeat, restart, heard, enabled, nmInRepeatOrNormal, prepared, nmInReady, waitInPrepare, repeatInRepeat}
+use Rattle.transitions.specs.Transitions.{modeBy}
 use Rattle.frames.specs.Frames.{accepted, asksRepeat}
-use Rattle.decision.specs.Refusals.{refusedState}
+use Rattle.refusals.specs.Refusals.{refusedState}
 use Rattle.channel.specs.Channel.{againFor, modeAfter, ruleFor}
 use Rattle.sleep.specs.Summary.{Since, none, ago, Summary, summary, below, networkState, shown, turned}
 

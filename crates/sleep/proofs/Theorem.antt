@@ -8,12 +8,12 @@ use mathlib.Core.Logic.{_↔_}
 use native.Mathlib.Omega.{arith}
 use lib.ListN.{take}
 use borrow.Author.Tests.{lt-ltb}
-use Rattle.bits.proofs.Timers.{within-zeros}
+use Rattle.timers.proofs.Timers.{within-zeros}
 use Rattle.config.specs.declared.Config.{Config}
 use Rattle.config.specs.declared.Ticks.{Ticks}
-use Rattle.config.specs.Rules.{firstBroken, ticksFor}
-use Rattle.config.proofs.Passes.{passes}
-use Rattle.decision.specs.declared.state.Mode.{Mode}
+use Rattle.rules.specs.Rules.{firstBroken, ticksFor}
+use Rattle.rules.proofs.Passes.{passes}
+use Rattle.states.specs.declared.Mode.{Mode}
 use Rattle.decision.specs.Decision.{Call}
 use Rattle.traffic.specs.Traffic.{setupOf}
 use Rattle.channel.specs.declared.state.Channel.{Channel}

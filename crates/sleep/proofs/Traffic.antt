@@ -6,14 +6,15 @@ use mathlib.Core.Bool.{Bool, true, false, cond, not, _&&_}
 use native.Mathlib.Omega.{arith}
 use lib.Dec.{leb, ltb}
 use borrow.Author.Tests.{leb-true, leb-false, ltb-true, ltb-false, le-leb, eq-eqb}
-use Rattle.decision.specs.declared.state.State.{State}
-use Rattle.decision.specs.declared.state.State.the-variants.{PrepareBusSleep, RepeatMessage, NormalOperation, ReadySleep}
-use Rattle.decision.specs.declared.state.Mode.{Mode}
-use Rattle.decision.specs.declared.state.Traffic.{Traffic}
+use Rattle.states.specs.declared.State.{State}
+use Rattle.states.specs.declared.State.the-variants.{PrepareBusSleep, RepeatMessage, NormalOperation, ReadySleep}
+use Rattle.states.specs.declared.Mode.{Mode}
+use Rattle.states.specs.declared.Traffic.{Traffic}
 use Rattle.traffic.specs.declared.Setup.{Setup}
-use Rattle.decision.specs.State.{inNetwork, isNormal, isRepeat, settled, transmits}
+use Rattle.states.specs.State.{inNetwork, isNormal, isRepeat, settled, transmits}
 use Rattle.soundness.specs.Sound.{larger, only, runs, trafficSound}
-use Rattle.traffic.specs.Traffic.{afterMissed, afterSent, counts, firstMessage, framing, heardInNormal, heardInReady, inNormal, inReady, inRepeat, resumed, toNormal, toReady, toRepeat, toRepeatActive, toRepeatAsked}
+use Rattle.traffic.specs.Traffic.{firstMessage, heardInNormal, heardInReady, inNormal, inReady, inRepeat, resumed, toNormal, toReady, toRepeat, toRepeatActive, toRepeatAsked}
+use Rattle.sending.specs.Sending.{afterMissed, afterSent, counts, framing}
 use Rattle.sleep.proofs.Passing.{Tuned}
 use Rattle.sleep.proofs.Simulation.{clash}
 

@@ -8,18 +8,18 @@ use native.Mathlib.Omega.{arith}
 use lib.Dec.{ltb}
 use lib.ListN.{take, drop}
 use borrow.Author.Tests.{le-leb, eq-eqb}
-use Rattle.bits.specs.Timers.{countedDown, loadedWhere}
-use Rattle.bits.proofs.Timers.{within-counted-down}
+use Rattle.timers.specs.Timers.{countedDown, loadedWhere}
+use Rattle.timers.proofs.Timers.{within-counted-down}
 use Rattle.config.specs.declared.Config.{Config}
 use Rattle.config.specs.declared.Ticks.{Ticks}
-use Rattle.config.specs.Rules.{firstBroken, ticksFor}
-use Rattle.config.proofs.Passes.{passes}
+use Rattle.rules.specs.Rules.{firstBroken, ticksFor}
+use Rattle.rules.proofs.Passes.{passes}
 use Rattle.filter.specs.Filter.{informs}
-use Rattle.decision.specs.declared.state.State.{State}
-use Rattle.decision.specs.declared.state.Mode.{Mode}
-use Rattle.decision.specs.declared.state.Traffic.{Traffic}
+use Rattle.states.specs.declared.State.{State}
+use Rattle.states.specs.declared.Mode.{Mode}
+use Rattle.states.specs.declared.Traffic.{Traffic}
 use Rattle.traffic.specs.declared.Setup.{Setup}
-use Rattle.decision.specs.State.{inNetwork, isNormal, isRepeat, settled}
+use Rattle.states.specs.State.{inNetwork, isNormal, isRepeat, settled}
 use Rattle.decision.specs.Decision.{
   Call,
   networkRequest,
@@ -37,10 +37,11 @@ use Rattle.decision.specs.Decision.{
   mainFunction,
 }
 use Rattle.modes.specs.Mode.{mode}
-use Rattle.traffic.specs.Traffic.{framing, setupOf}
+use Rattle.traffic.specs.Traffic.{setupOf}
+use Rattle.sending.specs.Sending.{framing}
 use Rattle.soundness.specs.Sound.{configured, modeSound, only, passiveSound, sameTicks, scalarsSound, timersSound}
 use Rattle.frames.specs.Frames.{accepted, cbvOf, loadedBy, pnOf, sentLoaded}
-use Rattle.decision.specs.Refusals.{refusal, refusedPassive, isDone}
+use Rattle.refusals.specs.Refusals.{refusal, refusedPassive, isDone}
 use Rattle.channel.specs.declared.state.Own.{Own}
 use Rattle.channel.specs.declared.state.Channel.{Channel}
 use Rattle.channel.specs.Channel.{answerOf, carriedOut, eiraAfter, eraAfter, heardBy, isTaken, isTick, modeAfter, ownAfter, refused, replied, sends, sound, trafficAfter, trafficMoved}

@@ -22,7 +22,7 @@ use Rattle.decision.specs.Decision.{
   mainFunction,
 }
 use Rattle.frames.specs.Frames.{accepted}
-use Rattle.decision.specs.Refusals.{refusal, isDone}
+use Rattle.refusals.specs.Refusals.{refusal, isDone}
 use Rattle.channel.specs.Channel.{isTick}
 use Rattle.sleep.specs.Summary.{Summary, keepsAwake, shown, summarised}
 

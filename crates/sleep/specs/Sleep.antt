@@ -8,9 +8,9 @@ use mathlib.Core.List.{List, [], _∷_, _++_}
 use mathlib.Core.Logic.{_↔_}
 use Rattle.config.specs.declared.Config.{Config}
 use Rattle.config.specs.declared.Ticks.{Ticks}
-use Rattle.config.specs.Rules.{firstBroken, ticksFor}
-use Rattle.decision.specs.declared.state.State.the-variants.{BusSleep}
-use Rattle.decision.specs.declared.state.Mode.{Mode}
+use Rattle.rules.specs.Rules.{firstBroken, ticksFor}
+use Rattle.states.specs.declared.State.the-variants.{BusSleep}
+use Rattle.states.specs.declared.Mode.{Mode}
 use Rattle.decision.specs.Decision.{Call}
 use Rattle.channel.specs.declared.state.Channel.{Channel}
 use Rattle.channel.specs.Channel.{fresh, isTick, replied, sound}

@@ -6,15 +6,15 @@ use mathlib.Core.List.{List, [], _∷_}
 use lib.Dec.{ltb, eqb}
 use Rattle.config.specs.declared.Config.{Config}
 use Rattle.config.specs.declared.Ticks.{Ticks}
-use Rattle.decision.specs.declared.state.State.{State}
-use Rattle.decision.specs.declared.state.State.the-variants.{
+use Rattle.states.specs.declared.State.{State}
+use Rattle.states.specs.declared.State.the-variants.{
   BusSleep,
   PrepareBusSleep,
   RepeatMessage,
   NormalOperation,
   ReadySleep,
 }
-use Rattle.decision.specs.State.{inNetwork, isPrepare, settled, transmits}
+use Rattle.states.specs.State.{inNetwork, isPrepare, settled, transmits}
 use Rattle.decision.specs.Decision.{
   Call,
   networkRequest,
@@ -32,7 +32,7 @@ use Rattle.decision.specs.Decision.{
   mainFunction,
 }
 use Rattle.frames.specs.Frames.{accepted, asksRepeat}
-use Rattle.decision.specs.Refusals.{refusal, isDone}
+use Rattle.refusals.specs.Refusals.{refusal, isDone}
 use Rattle.channel.specs.Channel.{isTick}
 
 -- k: ticks since the last keep-awake, none before the first

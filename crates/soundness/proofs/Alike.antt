@@ -3,12 +3,12 @@ use mathlib.Core.Path.{_≡_}
 use mathlib.Core.List.{List}
 use Prim.Native.Nat.{ℕ, _≤_}
 use lib.ListN.{length, take}
-use Rattle.bits.specs.Timers.{topsOf}
-use Rattle.bits.proofs.Timers.{under-tops}
+use Rattle.timers.specs.Timers.{topsOf}
+use Rattle.timers.proofs.Timers.{under-tops}
 use Rattle.config.specs.declared.Config.{Config}
 use Rattle.config.specs.declared.Ticks.{Ticks}
-use Rattle.decision.specs.declared.state.Mode.{Mode}
-use Rattle.decision.specs.declared.state.Traffic.{Traffic}
+use Rattle.states.specs.declared.Mode.{Mode}
+use Rattle.states.specs.declared.Traffic.{Traffic}
 use Rattle.traffic.specs.Traffic.{setupOf}
 use Rattle.soundness.specs.Sound.{configured, scalarsSound, soundBy, soundOf}
 

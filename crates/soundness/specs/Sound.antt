@@ -4,16 +4,16 @@ use mathlib.Core.Bool.{Bool, cond, not, _&&_, _||_}
 use mathlib.Core.List.{List}
 use lib.Dec.{leb, ltb, eqb}
 use lib.ListN.{take}
-use Rattle.bits.specs.Timers.{allUnder, allWithin}
+use Rattle.timers.specs.Timers.{allUnder, allWithin}
 use Rattle.config.specs.declared.Config.{Config}
 use Rattle.config.specs.declared.Ticks.{Ticks}
-use Rattle.config.specs.Rules.{firstBroken, ticksFor}
-use Rattle.decision.specs.declared.state.State.{State}
-use Rattle.decision.specs.declared.state.Mode.{Mode}
-use Rattle.decision.specs.declared.state.Traffic.{Traffic}
+use Rattle.rules.specs.Rules.{firstBroken, ticksFor}
+use Rattle.states.specs.declared.State.{State}
+use Rattle.states.specs.declared.Mode.{Mode}
+use Rattle.states.specs.declared.Traffic.{Traffic}
 use Rattle.traffic.specs.declared.Setup.{Setup}
 use Rattle.traffic.specs.Traffic.{setupOf}
-use Rattle.decision.specs.State.{inNetwork, isPrepare, isRepeat, isNormal, settled, transmits}
+use Rattle.states.specs.State.{inNetwork, isPrepare, isRepeat, isNormal, settled, transmits}
 
 -- ticks kept beside the configuration are what its times come to
 abbrev pub sameTicks : Ticks → Ticks → Bool

@@ -3,22 +3,22 @@
 // Promises: each function is a definition of specs/. Leaves to others: refusing a state that is not sound (`channel`).
 use config::Config;
 use config::Ticks;
-use decision::in_network;
-use decision::is_normal;
-use decision::is_prepare;
-use decision::is_repeat;
-use decision::settled;
-use decision::state::Mode;
-use decision::state::State;
-use decision::state::Traffic;
-use decision::transmits;
+use states::Mode;
+use states::State;
+use states::Traffic;
+use states::in_network;
+use states::is_normal;
+use states::is_prepare;
+use states::is_repeat;
+use states::settled;
+use states::transmits;
 use traffic::Setup;
 use traffic::setup_of;
 ghost use mathlib.Core.Path.{_≡_};
 ghost use mathlib.Core.Bool.{_&&_};
 ghost use lib.ListN.{length, take};
-ghost use Rattle.bits.specs.Timers.{allUnder, topsOf};
-ghost use Rattle.config.specs.Rules.{ticksFor};
+ghost use Rattle.timers.specs.Timers.{allUnder, topsOf};
+ghost use Rattle.rules.specs.Rules.{ticksFor};
 ghost use Rattle.soundness.specs.Sound.{configured, larger, modeSound, only, passiveSound, requestFits, runs, sameTicks, soundBy, soundOf, trafficSound};
 
 // Are kept ticks what the times come to? By multiplying.
@@ -39,7 +39,7 @@ fn same_ticks(c: Config, t: Ticks) -> bool
 pub fn configured(c: Config, t: Ticks) -> bool
     ensures { λ r. ⌜ r ≡ configured c t ⌝ }
 {
-    choice::both(config::first_broken_by(c, t) == 0, same_ticks(c, t))
+    choice::both(rules::first_broken_by(c, t) == 0, same_ticks(c, t))
 }
 
 fn runs(running: bool, top: u16, n: u16) -> bool
@@ -136,7 +136,7 @@ pub fn put_tops(c: Config, t: Ticks, tops: &mut [u16; 56])
 fn put_tops_by(mask: &[u8; 8], n: usize, reset: u16, tops: &mut [u16; 56])
     ensures { λ r. ⌜ now (tops .exit) ≡ topsOf (take n (now (mask .entry))) reset (now (tops .entry)) ⌝ }
 {
-    bits::put_tops(mask, n, reset, tops);
+    timers::put_tops(mask, n, reset, tops);
 }
 
 // The PN timers of both tables, at their lengths.
@@ -144,7 +144,7 @@ fn timers_sound<'a>(tops: &'a [u16; 56], era: &'a [u16; 56], eira: &'a [u16; 56]
     ensures { λ r. ⌜ r ≡ (allUnder (now (tops .entry)) (now (era .entry)) && allUnder (now (tops .entry)) (now (eira .entry))) ⌝ }
     ensures { λ r. ⌜ (length (now (era .entry)) ≡ 56) × (length (now (eira .entry)) ≡ 56) ⌝ }
 {
-    bits::pair_under(tops, era, eira)
+    timers::pair_under(tops, era, eira)
 }
 
 // A channel's parts are sound, with what its configuration comes to: whether it passes, what the rules need of it, and

@@ -20,10 +20,10 @@ use channel::state::Own;
 use channel::state::Reply;
 use config::Config;
 use config::Ticks;
-use decision::state::Mode;
-use decision::state::Note;
-use decision::state::State;
-use decision::state::Traffic;
+use states::Mode;
+use states::Note;
+use states::State;
+use states::Traffic;
 ghost use Prim.Native.Nat.{_≤_};
 
 // How many words a channel takes.
@@ -259,7 +259,7 @@ fn put_ticks(w: &mut [u64], t: Ticks) {
 
 fn put_mode(w: &mut [u64], m: Mode) {
     let state = m.state;
-    put_byte(w, 36, decision::state_number(state));
+    put_byte(w, 36, states::state_number(state));
     put_flag(w, 37, m.requested);
     put_flag(w, 38, m.sending);
     put_flag(w, 39, m.filter);

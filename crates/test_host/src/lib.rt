@@ -90,7 +90,7 @@ fn config_of(n: &[u64], mask: &[u8]) -> Config {
 
 #[no_mangle]
 pub extern "C" fn test_first_broken_rule(numbers: &[u64], mask: &[u8]) -> u32 {
-    config::first_broken_rule(config_of(numbers, mask)) as u32
+    rules::first_broken_rule(config_of(numbers, mask)) as u32
 }
 
 #[no_mangle]

@@ -9,9 +9,9 @@ use channel::state::Notes;
 use channel::state::Reply;
 use config::Config;
 use config::Ticks;
-use decision::state::Mode;
-use decision::state::Note;
-use decision::state::Traffic;
+use states::Mode;
+use states::Note;
+use states::Traffic;
 ghost use mathlib.Core.Path.{_≡_};
 ghost use Rattle.channel.specs.Channel.{ticked, tickedBy};
 ghost use Rattle.channel.specs.Moved.{told};
@@ -57,17 +57,17 @@ pub fn main_function_in_place<'a>(
     let state = m.state;
     let rule = decision::rule_of(state, decision::MAIN_FUNCTION);
     let size = choice::negation(c.layout.length <= frame.len() as u64);
-    let a = decision::refusals::judge(ok, false, false, decision::is_not_here(rule), size);
-    if decision::refusals::is_done(a) {
+    let a = refusals::judge(ok, false, false, decision::is_not_here(rule), size);
+    if refusals::is_done(a) {
         // Steps a to d.
-        let after = modes::mode_by(rule, false, t, m);
+        let after = transitions::mode_by(rule, false, t, m);
         let s = traffic::setup_of(c, t);
-        let x = traffic::traffic_by(rule, false, s, m, after, old);
+        let x = transitions::traffic_by(rule, false, s, m, after, old);
         let first = notes::first_by(rule, m, after);
         let second = notes::second_by(rule, m, old);
         // Step f without its frame, which no table and no byte of the channel depends on.
-        let sent = choice::both(taken, traffic::is_due(s, after, x));
-        let y = traffic::framing(s, after, taken, x);
+        let sent = choice::both(taken, sending::is_due(s, after, x));
+        let y = sending::framing(s, after, taken, x);
         // Step e, and what a sent frame loads.
         let er = frames::count_down(era);
         if sent {

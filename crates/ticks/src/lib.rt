@@ -73,3 +73,13 @@ pub fn is_conversion(period: u64, ms: u64, ticks: u16) -> bool
     }
     covers(period, ms, ticks as u64)
 }
+
+// A timer after one tick; a stopped one stays 0.
+pub fn down(t: u16) -> u16
+    ensures { λ r. ⌜ r ≡ t - 1 ⌝ }
+{
+    if t == 0 {
+        return 0;
+    }
+    t - 1
+}

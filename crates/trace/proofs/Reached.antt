@@ -12,9 +12,9 @@ use Rattle.channel.specs.Channel.{fresh, initialised, started, zero}
 use Rattle.commands.specs.declared.Asked.{Asked}
 use Rattle.commands.specs.declared.Asked.the-variants.{Unreadable, Call}
 use Rattle.config.specs.declared.Config.{Config}
-use Rattle.config.specs.Rules.{firstBroken, ticksFor}
+use Rattle.rules.specs.Rules.{firstBroken, ticksFor}
 use Rattle.decision.specs.Decision as calls
-use Rattle.decision.specs.Refusals.{isDone}
+use Rattle.refusals.specs.Refusals.{isDone}
 use Rattle.config_line.specs.ConfigLine.{readConfig}
 use Rattle.pn_line.specs.PnLine.{isPartial, readPartial}
 use Rattle.sleep.specs.Sleep.{reached}

@@ -6,7 +6,7 @@ use Prim.Native.Nat.{ℕ}
 use Rattle.commands.specs.declared.Asked.{Asked}
 use Rattle.commands.specs.declared.Asked.the-variants.{Unreadable, Call}
 use Rattle.config.specs.declared.Config.{Config}
-use Rattle.config.specs.Rules.{firstBroken}
+use Rattle.rules.specs.Rules.{firstBroken}
 use Rattle.decision.specs.Decision as calls
 use Rattle.config_line.specs.ConfigLine.{readConfig}
 use Rattle.pn_line.specs.PnLine.{isPartial, readPartial}

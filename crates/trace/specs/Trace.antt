@@ -5,8 +5,8 @@ use Prim.Native.Nat.{ℕ, _+_, _*_}
 use Rattle.answers.specs.Answers.{numberOf}
 use Rattle.channel.specs.Channel.{fresh, initialised}
 use Rattle.config.specs.declared.Config.{Config}
-use Rattle.config.specs.Rules.{ticksFor}
-use Rattle.decision.specs.Refusals.{isDone}
+use Rattle.rules.specs.Rules.{ticksFor}
+use Rattle.refusals.specs.Refusals.{isDone}
 use Rattle.print.specs.Print.{dash}
 use Rattle.report.specs.Report.{letterOf, lineMost}
 use Rattle.config_line.specs.ConfigLine.{readConfig}

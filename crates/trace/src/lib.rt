@@ -44,7 +44,7 @@ fn holding(phase: Phase, next: u64, c: Config) -> Run
     Run {
         phase: phase,
         next: next,
-        channel: Channel::fresh(c, config::ticks_for(c)),
+        channel: Channel::fresh(c, rules::ticks_for(c)),
     }
 }
 
@@ -97,7 +97,7 @@ fn begin(c: Config, n: u64, out: &mut [u8], at: usize) -> Step
     let answer = s.answer;
     let mode = s.channel.own.mode;
     let state = mode.state;
-    let done = decision::refusals::is_done(answer);
+    let done = refusals::is_done(answer);
     let letter = choice::pick8(done, report::letter(state), print::DASH);
     let p = replay::put_bare(out, at, FIRST_NUMBER, replay::digit(answer), letter);
     let channel = s.channel;

@@ -5,35 +5,11 @@ use mathlib.Core.Bool.{Bool, true, false, cond, not, _&&_}
 use lib.Dec.{leb, ltb}
 use Rattle.config.specs.declared.Config.{Config}
 use Rattle.config.specs.declared.Ticks.{Ticks}
-use Rattle.decision.specs.declared.state.State.{State}
-use Rattle.decision.specs.declared.state.Mode.{Mode}
-use Rattle.decision.specs.declared.state.Traffic.{Traffic}
+use Rattle.states.specs.declared.State.{State}
+use Rattle.states.specs.declared.Mode.{Mode}
+use Rattle.states.specs.declared.Traffic.{Traffic}
 use Rattle.traffic.specs.declared.Setup.{Setup}
-use Rattle.decision.specs.declared.Rule.{Rule}
-use Rattle.decision.specs.declared.Rule.the-variants.{
-  Keep,
-  NotHere,
-  WakeUp,
-  ActiveWakeUp,
-  Request,
-  ToNormal,
-  Release,
-  ToReady,
-  Repeat,
-  Disable,
-  Enable,
-  Confirm,
-  Start,
-  HeardInRepeat,
-  HeardInNormal,
-  HeardInReady,
-  FilterOn,
-  TickInPrepare,
-  TickInRepeat,
-  TickInNormal,
-  TickInReady,
-}
-use Rattle.decision.specs.State.{transmits, isRepeat, isNormal, isPrepare}
+use Rattle.states.specs.State.{transmits, isRepeat, isNormal, isPrepare}
 
 abbrev pub traffic : ℕ → ℕ → ℕ → Bool → Bool → Bool → Traffic
 traffic m f r i b w = record { message = m; fast = f; remote = r; indicated = i; repeating = b; waking = w }
@@ -108,50 +84,3 @@ inRepeat s after x =
 unfoldable pub inNormal : Mode → Traffic → Traffic
 inNormal m x =
     cond (m .sending && ltb 0 (x .remote)) (withRemote (x .remote - 1) (leb (x .remote) 1) x) x
-
--- f: in Repeat or Normal of an active channel with sending enabled the message timer counts; at 0 a frame is due
-unfoldable pub counts : Setup → Mode → Bool
-counts s after = transmits (after .state) && not (s .passive) && after .sending
-
-unfoldable pub isDue : Setup → Mode → Traffic → Bool
-isDue s after x = counts s after && leb (x .message) 1
-
--- taken: a fast count above 0 falls, the fast cycle follows while it is still above 0, else the cycle
-abbrev pub afterSent : Setup → Traffic → Traffic
-afterSent s x =
-    traffic (cond (ltb 1 (x .fast)) (s .ticks .fast) (s .ticks .cycle)) (x .fast - 1) (x .remote) (x .indicated) (x .repeating)
-    (x .waking)
-
--- not taken: tried again in the next tick of fast frames, else after the cycle
-abbrev pub afterMissed : Setup → Traffic → Traffic
-afterMissed s x = withMessage (cond (ltb 0 (x .fast)) 1 (s .ticks .cycle)) x
-
-unfoldable pub framing : Setup → Mode → Bool → Traffic → Traffic
-framing s after taken x =
-    cond (counts s after)
-    (cond (leb (x .message) 1) (cond taken (afterSent s x) (afterMissed s x)) (withMessage (x .message - 1) x))
-    x
-
--- ---- the rules
-unfoldable pub trafficBy : Rule → Bool → Setup → Mode → Mode → Traffic → Traffic
-trafficBy Keep again s before after x = x
-trafficBy NotHere again s before after x = x
-trafficBy WakeUp again s before after x = toRepeat s x
-trafficBy ActiveWakeUp again s before after x = toRepeatActive s x
-trafficBy Request again s before after x = x
-trafficBy ToNormal again s before after x = toNormal s x
-trafficBy Release again s before after x = x
-trafficBy ToReady again s before after x = toReady x
-trafficBy Repeat again s before after x = toRepeatAsked s x
-trafficBy Disable again s before after x = x
-trafficBy Enable again s before after x = resumed before x
-trafficBy Confirm again s before after x = x
-trafficBy Start again s before after x = x
-trafficBy HeardInRepeat again s before after x = x
-trafficBy HeardInNormal again s before after x = heardInNormal again s x
-trafficBy HeardInReady again s before after x = heardInReady again s x
-trafficBy FilterOn again s before after x = x
-trafficBy TickInPrepare again s before after x = x
-trafficBy TickInRepeat again s before after x = inRepeat s (after .state) x
-trafficBy TickInNormal again s before after x = inNormal before x
-trafficBy TickInReady again s before after x = inReady (after .state) x

@@ -1,7 +1,7 @@
 -- `calls::status` meets its contract. Assumes nothing.
 use mathlib.Core.Path.{_≡_}
 use Rattle.decision.specs.Decision.{status}
-use Rattle.decision.specs.Refusals.{refusal}
+use Rattle.refusals.specs.Refusals.{refusal}
 use Rattle.channel.specs.Channel.{answerOf, shown, sound, statusOf}
 use Rattle.calls.proofs.status.Statement.{statement}
 use Rattle.calls.proofs.status.Tie as tie

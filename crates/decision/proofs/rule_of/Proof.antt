@@ -5,9 +5,9 @@ use native.Mathlib.Omega.{arith}
 use borrow.Author.Needs.{needs}
 use lib.ListN.{List·getD-eq-default}
 use Rattle.decision.specs.declared.Rule.the-variants.{Keep}
-use Rattle.decision.specs.State.{stateNumber}
+use Rattle.states.specs.State.{stateNumber}
 use Rattle.decision.specs.Decision.{ruleAt, table}
-use Rattle.decision.proofs.States.{number-small}
+use Rattle.states.proofs.States.{number-small}
 use Rattle.decision.proofs.rule_of.Statement.{statement}
 use Rattle.decision.proofs.rule_of.Tie as tie
 

@@ -1,5 +1,5 @@
 -- `soundness::same_ticks` meets its contract. Assumes nothing.
-use Rattle.config.specs.Rules.{ticksFor}
+use Rattle.rules.specs.Rules.{ticksFor}
 use Rattle.soundness.proofs.same_ticks.Statement.{statement}
 use Rattle.soundness.proofs.same_ticks.Tie as tie
 

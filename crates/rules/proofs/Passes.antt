@@ -1,0 +1,44 @@
+-- What it says of a configuration that no rule is broken: each rule by itself, and its PDU's byte ranges. Assumes nothing.
+use mathlib.Core.Path.{_≡_, refl}
+use mathlib.Core.Bool.{Bool, true, false}
+use Prim.Native.Nat.{ℕ, suc}
+use native.Mathlib.Omega.{arith}
+use Rattle.config.specs.declared.Config.{Config}
+use Rattle.rules.specs.Rules.{ticksFor, rule1, rule2, rule3, rule4, rule5, rule6, rule7, rule8, unless, firstBroken, firstBrokenBy}
+
+-- every rule is kept
+pub record Passes (c : Config) : Type 0 where
+  pub period : rule1 c ≡ true
+  pub bounds : rule2 c ≡ true
+  pub offset : rule3 (ticksFor c) ≡ true
+  pub fast : rule4 c (ticksFor c) ≡ true
+  pub timeout : rule5 (ticksFor c) ≡ true
+  pub length : rule6 (c .layout) ≡ true
+  pub header : rule7 (c .layout) ≡ true
+  pub partial : rule8 c (ticksFor c) ≡ true
+
+kept : (ok : Bool) (n later : ℕ) → unless ok (suc n) later ≡ 0 → (ok ≡ true) × (later ≡ 0)
+kept true n later e = (refl, e)
+kept false n later e = absurd (omega arith)
+
+pub passes : (c : Config) → firstBroken c ≡ 0 → Passes c
+unfolding firstBroken firstBrokenBy
+passes c e =
+    let k1 = kept (rule1 c) 0 _ e in
+    let k2 = kept (rule2 c) 1 _ (k1 .1) in
+    let k3 = kept (rule3 (ticksFor c)) 2 _ (k2 .1) in
+    let k4 = kept (rule4 c (ticksFor c)) 3 _ (k3 .1) in
+    let k5 = kept (rule5 (ticksFor c)) 4 _ (k4 .1) in
+    let k6 = kept (rule6 (c .layout)) 5 _ (k5 .1) in
+    let k7 = kept (rule7 (c .layout)) 6 _ (k6 .1) in
+    let k8 = kept (rule8 c (ticksFor c)) 7 _ (k7 .1) in
+    record {
+      period = k1 .0;
+      bounds = k2 .0;
+      offset = k3 .0;
+      fast = k4 .0;
+      timeout = k5 .0;
+      length = k6 .0;
+      header = k7 .0;
+      partial = k8 .0;
+    }

@@ -1,0 +1,11 @@
+-- `rules::fast_rule` meets its contract. Assumes nothing.
+use Rattle.rules.specs.Rules.{rule4}
+use Rattle.rules.proofs.fast_rule.Statement.{statement}
+use Rattle.rules.proofs.fast_rule.Tie as tie
+
+returns : tie.Need-returns
+unfolding rule4
+returns c = rw (c .either .ensures)
+
+pub fast-rule-spec : {M : Type 1} → statement M
+fast-rule-spec = tie.close (tie.spec (λ c κs. tt) returns)

@@ -1,0 +1,95 @@
+-- What each transition rule does to the mode and to the traffic. Assumes nothing.
+use mathlib.Core.Bool.{Bool, true, false}
+use Rattle.config.specs.declared.Ticks.{Ticks}
+use Rattle.states.specs.declared.State.the-variants.{NormalOperation, ReadySleep}
+use Rattle.states.specs.declared.Mode.{Mode}
+use Rattle.states.specs.declared.Traffic.{Traffic}
+use Rattle.traffic.specs.declared.Setup.{Setup}
+use Rattle.decision.specs.declared.Rule.{Rule}
+use Rattle.decision.specs.declared.Rule.the-variants.{
+  Keep,
+  NotHere,
+  WakeUp,
+  ActiveWakeUp,
+  Request,
+  ToNormal,
+  Release,
+  ToReady,
+  Repeat,
+  Disable,
+  Enable,
+  Confirm,
+  Start,
+  HeardInRepeat,
+  HeardInNormal,
+  HeardInReady,
+  FilterOn,
+  TickInPrepare,
+  TickInRepeat,
+  TickInNormal,
+  TickInReady,
+}
+use Rattle.modes.specs.Mode.{
+  enabled,
+  enterNetwork,
+  enterRepeat,
+  heard,
+  nmInReady,
+  nmInRepeatOrNormal,
+  repeatInRepeat,
+  restart,
+  waitInPrepare,
+  withFilter,
+  withRequested,
+  withSending,
+  withState,
+}
+use Rattle.traffic.specs.Traffic.{heardInNormal, heardInReady, inNormal, inReady, inRepeat, resumed, toNormal, toReady, toRepeat, toRepeatActive, toRepeatAsked}
+
+-- the mode after a rule; `again` says that a PDU asks for Repeat
+unfoldable pub modeBy : Rule → Bool → Ticks → Mode → Mode
+modeBy Keep again t m = m
+modeBy NotHere again t m = m
+modeBy WakeUp again t m = enterNetwork t m
+modeBy ActiveWakeUp again t m = enterNetwork t (withRequested true m)
+modeBy Request again t m = withRequested true m
+modeBy ToNormal again t m = withState NormalOperation (withRequested true m)
+modeBy Release again t m = withRequested false m
+modeBy ToReady again t m = withState ReadySleep (withRequested false m)
+modeBy Repeat again t m = enterRepeat t m
+modeBy Disable again t m = withSending false m
+modeBy Enable again t m = enabled t m
+modeBy Confirm again t m = restart t m
+modeBy Start again t m = m
+modeBy HeardInRepeat again t m = restart t m
+modeBy HeardInNormal again t m = heard again t m
+modeBy HeardInReady again t m = heard again t m
+modeBy FilterOn again t m = withFilter true m
+modeBy TickInPrepare again t m = waitInPrepare m
+modeBy TickInRepeat again t m = repeatInRepeat (nmInRepeatOrNormal t m)
+modeBy TickInNormal again t m = nmInRepeatOrNormal t m
+modeBy TickInReady again t m = nmInReady t m
+
+-- the traffic after a rule, with the mode before and after it
+unfoldable pub trafficBy : Rule → Bool → Setup → Mode → Mode → Traffic → Traffic
+trafficBy Keep again s before after x = x
+trafficBy NotHere again s before after x = x
+trafficBy WakeUp again s before after x = toRepeat s x
+trafficBy ActiveWakeUp again s before after x = toRepeatActive s x
+trafficBy Request again s before after x = x
+trafficBy ToNormal again s before after x = toNormal s x
+trafficBy Release again s before after x = x
+trafficBy ToReady again s before after x = toReady x
+trafficBy Repeat again s before after x = toRepeatAsked s x
+trafficBy Disable again s before after x = x
+trafficBy Enable again s before after x = resumed before x
+trafficBy Confirm again s before after x = x
+trafficBy Start again s before after x = x
+trafficBy HeardInRepeat again s before after x = x
+trafficBy HeardInNormal again s before after x = heardInNormal again s x
+trafficBy HeardInReady again s before after x = heardInReady again s x
+trafficBy FilterOn again s before after x = x
+trafficBy TickInPrepare again s before after x = x
+trafficBy TickInRepeat again s before after x = inRepeat s (after .state) x
+trafficBy TickInNormal again s before after x = inNormal before x
+trafficBy TickInReady again s before after x = inReady (after .state) x
