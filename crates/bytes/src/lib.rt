@@ -1,7 +1,7 @@
 // Bytes in their places: one byte put, a part copied or lent.
 //
 // Promises: each function is an equation over lists, for any bytes, lengths and places. What would stand past the end is
-// left out, so no function asks for room. Leaves to others: what the bytes mean (`pdu`, `hex`, the lines of a trace).
+// left out, so no function asks for room. Leaves to others: what the bytes mean.
 ghost use mathlib.Core.Path.{_≡_};
 ghost use lib.ListN.{set, take, drop};
 ghost use lib.Seq.{sets};

@@ -1,7 +1,7 @@
 // What a line of a trace asks: a call of the channel, with its argument.
 //
 // Promises: the call of every line, or that it can't be read, for any bytes. Leaves to others: the configuration's lines
-// (`settings`), and carrying the call out (`dispatch`).
+// (`config_line`, `pn_line`), and carrying the call out (`dispatch`).
 ghost use mathlib.Core.Path.{_≡_};
 ghost use Rattle.text.specs.Filled.{filled};
 ghost use Rattle.commands.specs.Commands.{alone, argued, hexRead, reading, readAs, tickOf, withBytes};
