@@ -9,8 +9,8 @@ use Rattle.text.specs.Filled.{Filled, filled}
 use Rattle.text.specs.Lines.{until}
 use Rattle.text.specs.Blocks.{lineMost}
 use Rattle.fields.specs.Fields.{tab}
-use Rattle.fields.specs.Hex.{hexPairs}
-use Rattle.fields.specs.Names.{callOf}
+use Rattle.hex.specs.Hex.{hexPairs}
+use Rattle.names.specs.Names.{callOf}
 use Rattle.commands.specs.declared.Command.{Command}
 use Rattle.commands.specs.declared.Command.the-variants.{
   NetworkRequest,

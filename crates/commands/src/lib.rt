@@ -1,8 +1,7 @@
 // What a line of a trace asks: a call of the channel, with its argument.
 //
 // Promises: the call of every line, or that it can't be read, for any bytes. Leaves to others: the configuration's lines
-// (`settings`), and carrying the call out (`dispatch`).
-use fields::names;
+// (`config_line`, `pn_line`), and carrying the call out (`dispatch`).
 ghost use mathlib.Core.Path.{_≡_};
 ghost use Rattle.text.specs.Filled.{filled};
 ghost use Rattle.commands.specs.Commands.{alone, argued, hexRead, reading, readAs, tickOf, withBytes};
@@ -86,7 +85,7 @@ fn with_bytes(name: usize, n: usize) -> Asked
 fn read_hex(a: &[u8], bytes: &mut [u8]) -> usize
     ensures { λ r. ⌜ filled r (now (bytes .exit)) ≡ hexRead (now (a .entry)) (now (bytes .entry)) ⌝ }
 {
-    let n = fields::hex_pairs(a, bytes);
+    let n = hex::hex_pairs(a, bytes);
     if 2 * n == a.len() {
         return n;
     }

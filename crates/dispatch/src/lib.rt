@@ -31,10 +31,10 @@ fn carry_out(ch: Channel, k: Command, bytes: &[u8], frame: &mut [u8]) -> Reply
         Command::DisableCommunication => calls::disable_communication(ch),
         Command::EnableCommunication => calls::enable_communication(ch),
         Command::TxConfirmation(good) => calls::tx_confirmation(ch, good),
-        Command::RxIndication(n) => reception::rx_indication(ch, pdu::part(bytes, 0, n)),
+        Command::RxIndication(n) => reception::rx_indication(ch, bytes::part(bytes, 0, n)),
         Command::ConfirmPnAvailability => calls::confirm_pn_availability(ch),
-        Command::SetUserData(n) => inputs::set_user_data(ch, pdu::part(bytes, 0, n)),
-        Command::SetPnRequests(n) => inputs::set_pn_requests(ch, pdu::part(bytes, 0, n)),
+        Command::SetUserData(n) => inputs::set_user_data(ch, bytes::part(bytes, 0, n)),
+        Command::SetPnRequests(n) => inputs::set_pn_requests(ch, bytes::part(bytes, 0, n)),
         Command::MainFunction(taken) => tick::main_function(ch, taken, frame),
     }
 }
@@ -118,7 +118,16 @@ pub fn carry_out_in_place(
         );
     }
     if let Command::RxIndication(n) = k {
-        return reception::rx_indication_in_place(ok, c, t, m, x, pdu::part(bytes, 0, n), era, eira);
+        return reception::rx_indication_in_place(
+            ok,
+            c,
+            t,
+            m,
+            x,
+            bytes::part(bytes, 0, n),
+            era,
+            eira,
+        );
     }
     carry_out_whole(c, t, m, x, user, requests, era, eira, k, bytes, frame)
 }

@@ -3,8 +3,6 @@ use mathlib.Core.Path.{_≡_, refl}
 use mathlib.Core.List.{[], _∷_}
 use Rattle.fields.specs.Fields.{fieldsOf}
 use Rattle.fields.specs.Numbers.{dash, decimalOf, numberFrom, tokenOf, tokensOf, unreadable}
-use Rattle.fields.specs.Hex.{hexPairs}
-use Rattle.fields.specs.Names.{callOf, names, packed, place}
 
 -- "10", "-", "07", "0", no byte
 five-fields : tokensOf (49 ∷ 48 ∷ 9 ∷ 45 ∷ 9 ∷ 48 ∷ 55 ∷ 9 ∷ 48 ∷ 9 ∷ []) ≡ 10 ∷ dash ∷ unreadable ∷ 0 ∷ unreadable ∷ []
@@ -18,17 +16,3 @@ ten-digits = refl
 eleven-digits : decimalOf (49 ∷ 48 ∷ 48 ∷ 48 ∷ 48 ∷ 48 ∷ 48 ∷ 48 ∷ 48 ∷ 48 ∷ 48 ∷ []) ≡ unreadable
 unfolding decimalOf numberFrom
 eleven-digits = refl
-
--- "2AF00": two pairs, and a digit alone
-two-pairs : hexPairs (50 ∷ 65 ∷ 70 ∷ 48 ∷ 48 ∷ []) ≡ 42 ∷ 240 ∷ []
-unfolding hexPairs
-two-pairs = refl
-
--- "T", and "TT", which is no name
-tick : callOf (84 ∷ []) ≡ 12
-unfolding callOf names packed place
-tick = refl
-
-no-name : callOf (84 ∷ 84 ∷ []) ≡ 15
-unfolding callOf names packed place
-no-name = refl

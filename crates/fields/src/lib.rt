@@ -1,18 +1,15 @@
-// The fields of a line: parted by tabs, numbers in decimal, bytes in hex, and the names of the calls (`names`).
+// The fields of a line: parted by tabs, and numbers in decimal.
 //
 // Promises: what each field reads as, for any bytes; one that cannot be read has a number of its own. A buffer that
 // is too short takes what it has room for, and the answer still counts all. Leaves to others: where a line begins
-// (`text`), and which fields a line must have.
+// (`text`), fields that are names (`names`) or bytes (`hex`), and which fields a line must have.
 ghost use mathlib.Core.Path.{_≡_};
 ghost use Prim.Native.Nat.{_+_, _≤_};
 ghost use lib.ListN.{length, drop, set};
 ghost use Rattle.text.specs.Filled.{filled, fill};
 ghost use Rattle.text.specs.Lines.{until};
 ghost use Rattle.fields.specs.Fields.{tab};
-ghost use Rattle.fields.specs.Hex.{hexValue, hexPairs};
 ghost use Rattle.fields.specs.Numbers.{decimalOf, digitsMost, numberFrom, tokenOf, tokensOf};
-
-pub mod names;
 
 // The byte between two fields.
 pub const TAB: u8 = b'\t';
@@ -118,49 +115,4 @@ pub fn tokens(line: &[u8], out: &mut [u64]) -> usize
         at = end + 1;
     }
     k
-}
-
-// ---- hex
-
-// The value of a hex digit in upper case, 16 for any other byte. It has no branch, since no processor could predict
-// which digit comes.
-fn hex_value(d: u8) -> u8
-    ensures { λ r. ⌜ r ≡ hexValue d ⌝ }
-{
-    let x = std::num::wrapping_sub_u8(d, b'0');
-    let y = std::num::wrapping_sub_u8(d, b'A');
-    let z = std::num::wrapping_sub_u8(d, b'A' - 10);
-    choice::pick8(x < 10, x, choice::pick8(y < 6, z, 16))
-}
-
-// One byte; past the end nothing is written.
-fn put_byte(out: &mut [u8], at: usize, b: u8)
-    ensures { λ r. ⌜ now (out .exit) ≡ set (now (out .entry)) at b ⌝ }
-{
-    if at < out.len() {
-        out[at] = b;
-    }
-}
-
-// The bytes of the leading hex pairs, in front of the buffer; answers how many pairs there are. A text is hex
-// throughout exactly if twice the answer is its length.
-pub fn hex_pairs(s: &[u8], out: &mut [u8]) -> usize
-    ensures { λ r. ⌜ filled r (now (out .exit)) ≡ fill (now (out .entry)) (hexPairs (now (s .entry))) ⌝ }
-{
-    let mut i = 0;
-    let mut n = 0;
-    while i + 1 < s.len() {
-        let high = hex_value(s[i]);
-        let low = hex_value(s[i + 1]);
-        if 15 < high {
-            return n;
-        }
-        if 15 < low {
-            return n;
-        }
-        put_byte(out, n, high * 16 + low);
-        n += 1;
-        i += 2;
-    }
-    n
 }

@@ -7,8 +7,8 @@ use Rattle.bits.specs.Bits.{bitOf}
 use Rattle.timers.specs.Timers.{countedDown, loadedWhere}
 use Rattle.config.specs.declared.Config.{Config}
 use Rattle.config.specs.Ranges.{userLengthOf}
-use Rattle.pdu.specs.Fields.{fields}
-use Rattle.pdu.specs.Pdu.{byteAt, frameOf}
+use Rattle.layout.specs.Fields.{fields}
+use Rattle.layout.specs.Layout.{byteAt, frameOf}
 use Rattle.filter.specs.Filter.{informs, keeps}
 use Rattle.states.specs.declared.Traffic.{Traffic}
 

@@ -8,15 +8,15 @@ use lib.Dec.{eqb}
 use lib.ListN.{length, take, drop, length-drop}
 use lib.Seq.{sets}
 use borrow.Author.Tests.{eqb-true}
+use Rattle.bytes.proofs.Bytes.{sets-over}
 use Rattle.choice.proofs.Tests.{and-left, and-right}
 use Rattle.config.specs.declared.Config.{Config}
 use Rattle.config.specs.Ranges.{userStartOf, userLengthOf}
 use Rattle.rules.specs.Rules.{firstBroken}
 use Rattle.rules.proofs.Passes.{passes}
 use Rattle.rules.proofs.Layouts.{filled-by}
-use Rattle.pdu.specs.Fields.{fields}
-use Rattle.pdu.specs.Pdu.{byteAt, fieldsOf, ofLengths}
-use Rattle.pdu.proofs.Bytes.{sets-over}
+use Rattle.layout.specs.Fields.{fields}
+use Rattle.layout.specs.Layout.{byteAt, fieldsOf, ofLengths}
 
 -- lent bytes of length n that take what stands from place i on
 pub laid : (lent : List ℕ) (i n : ℕ) (pdu : List ℕ) → length lent ≡ n → i + n ≤ length pdu

@@ -10,6 +10,7 @@ use lib.Dec.{eqb, leb}
 use lib.ListN.{length, getD, set, take, drop, length-set, length-drop, length-append, List·getD-append}
 use lib.Seq.{sets, length-sets, getD-set-same, getD-set-other, getD-take, getD-drop, getD-append-add, ext-getD, length-take-le}
 use borrow.Author.Tests.{eqb-true, leb-true, leb-false, eq-eqb, le-leb}
+use Rattle.bytes.proofs.Bytes.{at-inside, at-outside, part-is}
 use Rattle.choice.proofs.Tests.{and-left, and-right}
 use Rattle.answers.specs.declared.Answer.{Answer}
 use Rattle.answers.specs.declared.Answer.the-variants.{Done, Rule, Length}
@@ -18,10 +19,10 @@ use Rattle.config.specs.Ranges.{off, headerLength, userStartOf, userLengthOf}
 use Rattle.rules.specs.Rules.{firstBroken}
 use Rattle.rules.proofs.Passes.{passes}
 use Rattle.rules.proofs.Layouts.{Header, none, sni-alone, cbv-alone, sni-first, cbv-first, headed, Filled, filled-by, Stands, covers}
-use Rattle.pdu.specs.Fields.{Fields, fields, compared}
-use Rattle.pdu.specs.Pdu.{byteAt, composed, composing, fieldsOf, frameOf, ofLengths, putByte, reading, taken}
-use Rattle.pdu.specs.RoundTrip.{RoundTrip}
-use Rattle.pdu.proofs.Bytes.{at-inside, at-outside, part-is}
+use Rattle.layout.specs.Fields.{Fields, fields}
+use Rattle.layout.specs.Layout.{byteAt, fieldsOf, frameOf, ofLengths, putByte}
+use Rattle.pdu.specs.Pdu.{composed, composing, reading, taken}
+use Rattle.pdu.specs.RoundTrip.{RoundTrip, compared}
 
 -- where the fields stand: the header fields, the header's length, the PDU's, the PN range and the user data
 record Shape : Type 0 where

@@ -9,18 +9,9 @@ use Rattle.answers.specs.declared.Answer.the-variants.{Done, Length}
 use Rattle.config.specs.declared.Config.{Config}
 use Rattle.config.specs.declared.Layout.{Layout}
 use Rattle.rules.specs.Rules.{firstBroken, firstBrokenOfHeader}
-use Rattle.pdu.specs.Fields.{Fields, fields}
-use Rattle.pdu.specs.Pdu.{
-  byteAt,
-  composed,
-  composing,
-  fieldsOf,
-  frameOf,
-  headerReading,
-  ofLengths,
-  reading,
-  taken,
-}
+use Rattle.layout.specs.Fields.{Fields, fields}
+use Rattle.layout.specs.Layout.{byteAt, fieldsOf, frameOf, ofLengths}
+use Rattle.pdu.specs.Pdu.{composed, composing, headerReading, reading, taken}
 
 module _ (c : Config) (f : Fields) (frame : List ℕ) where
   pub composes : firstBroken c ≡ 0 → (ofLengths c (length (f .pn)) (length (f .user)) && leb (c .layout .length) (length frame)) ≡ true

@@ -1,3 +1,2 @@
-pub mod Fields
 pub mod Pdu
 pub mod RoundTrip

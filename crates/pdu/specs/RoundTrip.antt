@@ -1,13 +1,20 @@
 -- The claim that composing a PDU and reading it undo each other. Assumes nothing.
 use Prim.Native.Nat.{ℕ, _≤_}
 use mathlib.Core.Path.{_≡_}
+use mathlib.Core.Bool.{cond}
 use mathlib.Core.List.{List, _++_}
+use lib.Dec.{eqb}
 use lib.ListN.{length, take, drop}
 use Rattle.answers.specs.declared.Answer.the-variants.{Done}
 use Rattle.config.specs.declared.Config.{Config}
-use Rattle.config.specs.Ranges.{userLengthOf}
-use Rattle.pdu.specs.Fields.{Fields, compared}
+use Rattle.config.specs.Ranges.{off, userLengthOf}
+use Rattle.layout.specs.Fields.{Fields, fields}
 use Rattle.pdu.specs.Pdu.{composed, composing, reading, taken}
+
+-- fields as they are compared: a header field that is off is 0
+unfoldable pub compared : Config → Fields → Fields
+compared c f =
+    fields (cond (eqb (c .layout .sni) off) 0 (f .sni)) (cond (eqb (c .layout .cbv) off) 0 (f .cbv)) (f .pn) (f .user)
 
 -- For a configuration c, whatever was lent:
 pub record RoundTrip (c : Config) : Type 0 where

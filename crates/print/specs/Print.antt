@@ -33,3 +33,7 @@ hexDigit d = cond (ltb d 10) (48 + d) (65 + (d - 10))
 unfoldable pub hexText : List ℕ → List ℕ
 hexText [] = []
 hexText (b ∷ bs) = hexDigit (b / 16) ∷ hexDigit (b % 16) ∷ hexText bs
+
+-- the byte for a field without content
+abbrev pub dash : ℕ
+dash = 45

@@ -11,6 +11,9 @@ ghost use Rattle.print.specs.Print.{Wrote, digitsMost, hexDigit, hexText
 
 // ---- bytes
 
+// The byte for a field without content.
+pub const DASH: u8 = b'-';
+
 // One byte. There must be room for it.
 pub fn put(out: &mut [u8], at: usize, b: u8) -> usize
     requires { ⌜ at < length (now out) ⌝ }

@@ -109,7 +109,7 @@ pub fn put_bare(out: &mut [u8], at: usize, n: u64, answer: u8, state: u8) -> usi
 fn sent_bytes<'a>(sent: bool, length: u64, frame: &'a [u8]) -> &'a [u8]
     ensures { λ r. ⌜ now r ≡ sentBytes sent length (now (frame .entry)) ⌝ }
 {
-    pdu::part(frame, 0, choice::pick64(sent, length, 0) as usize)
+    bytes::part(frame, 0, choice::pick64(sent, length, 0) as usize)
 }
 
 // The most bytes of a frame, and of the bytes in hex of a line.

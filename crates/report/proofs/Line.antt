@@ -5,12 +5,12 @@ use Prim.Native.Nat.{ℕ, _+_, _*_, _≤_}
 use native.Mathlib.Omega.{arith}
 use lib.Dec.{eqb}
 use lib.ListN.{length, length-append}
-use Rattle.print.specs.Print.{hexText}
+use Rattle.print.specs.Print.{dash, hexText}
 use Rattle.print.proofs.Hex.{length-hex}
 use Rattle.print.proofs.Numbers.{length-number}
 use Rattle.channel.specs.declared.state.Notes.{Notes}
-use Rattle.report.specs.Report.{dash, frameText, headMost, headText, lineMost, lineText}
-use Rattle.report.proofs.Notes.{length-notes}
+use Rattle.report.specs.Report.{frameText, headMost, headText, lineMost, lineText}
+use Rattle.notes_text.proofs.Notes.{length-notes}
 
 pub length-head : (n answer state : ℕ) → length (headText n answer state) ≤ headMost
 unfolding headText

@@ -7,14 +7,13 @@ use native.Mathlib.Omega.{arith}
 use lib.Dec.{eqb, leb}
 use lib.ListN.{length, take}
 use lib.Seq.{length-take-le, take-all}
-use borrow.Author.Tests.{lt-leb, leb-true, leb-false}
+use borrow.Author.Tests.{leb-true, leb-false}
 use Rattle.text.specs.Blocks.{cut, lineMost}
 use Rattle.text.specs.Lines.{until}
 use Rattle.fields.specs.Fields.{tab}
-use Rattle.fields.specs.Names.{callOf, packed}
-use Rattle.config.specs.declared.Config.{Config}
+use Rattle.names.specs.Names.{callOf, packed}
 use Rattle.settings.specs.declared.Setting.{Setting}
-use Rattle.settings.specs.Settings.{isLine, isPartial, nameOf, readConfig, readPartial}
+use Rattle.settings.specs.Settings.{nameOf}
 
 -- ---- the name
 
@@ -37,9 +36,9 @@ packed-cut k (a ∷ b ∷ c ∷ d ∷ l) = by-bytes (eqb a tab) (eqb b tab) (eqb
     by-bytes false false false true m n = refl
     by-bytes false false false false m n = refl
 
-pub is-partial-cut : (l : List ℕ) → isPartial (cut l) ≡ isPartial l
-unfolding isPartial nameOf callOf
-is-partial-cut l = rw (packed-cut 77 l)
+pub name-cut : (l : List ℕ) → nameOf (cut l) ≡ nameOf l
+unfolding nameOf callOf
+name-cut l = rw (packed-cut 77 l)
 
 -- ---- the settings
 
@@ -47,7 +46,7 @@ is-partial-cut l = rw (packed-cut 77 l)
 abbrev pub Alike : Setting → Setting → Type 0
 Alike s t = (s .readable ≡ t .readable) × (t .readable ≡ true → s .config ≡ t .config)
 
-alike-cut : (f : List ℕ → Setting) → ((l : List ℕ) → lineMost < length l → f l .readable ≡ false) → (l : List ℕ) → Alike (f (cut l)) (f l)
+pub alike-cut : (f : List ℕ → Setting) → ((l : List ℕ) → lineMost < length l → f l .readable ≡ false) → (l : List ℕ) → Alike (f (cut l)) (f l)
 alike-cut f none l = by-length (leb (length l) lineMost) refl
   where
     by-length : (t : Bool) → leb (length l) lineMost ≡ t → Alike (f (cut l)) (f l)
@@ -58,11 +57,3 @@ alike-cut f none l = by-length (leb (length l) lineMost) refl
         let h = leb-false (length l) lineMost e in
         let long : lineMost < length (cut l) = rw (length-take-le (suc lineMost) l (omega arith)) (omega arith) in
         (none (cut l) long ∙ sym (none l h), λ r. absurd (false≢true (sym (none l h) ∙ r)))
-
-pub read-config-cut : (l : List ℕ) → Alike (readConfig (cut l)) (readConfig l)
-unfolding readConfig isLine
-read-config-cut l = alike-cut readConfig (λ m h. rw (lt-leb (length m) lineMost h)) l
-
-pub read-partial-cut : (c : Config) (l : List ℕ) → Alike (readPartial c (cut l)) (readPartial c l)
-unfolding readPartial isLine
-read-partial-cut c l = alike-cut (readPartial c) (λ m h. rw (lt-leb (length m) lineMost h)) l

@@ -1,4 +1,5 @@
 pub mod Filled
+pub mod Filling
 pub mod Lines
 pub mod Whole
 pub mod Blocks

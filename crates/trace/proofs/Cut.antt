@@ -8,7 +8,9 @@ use Rattle.commands.specs.Commands.{Reading}
 use Rattle.commands.proofs.Cut.{reading-cut}
 use Rattle.config.specs.declared.Config.{Config}
 use Rattle.settings.specs.declared.Setting.{Setting}
-use Rattle.settings.proofs.Cut.{Alike, is-partial-cut, read-config-cut, read-partial-cut}
+use Rattle.settings.proofs.Cut.{Alike}
+use Rattle.config_line.proofs.Cut.{read-config-cut}
+use Rattle.pn_line.proofs.Cut.{is-partial-cut, read-partial-cut}
 use Rattle.text.specs.Blocks.{cut}
 use Rattle.replay.specs.declared.Phase.{Phase}
 use Rattle.replay.specs.declared.Phase.the-variants.{First, Second, Running, Ended}

@@ -15,7 +15,8 @@ use Rattle.config.specs.declared.Config.{Config}
 use Rattle.rules.specs.Rules.{firstBroken, ticksFor}
 use Rattle.decision.specs.Decision as calls
 use Rattle.refusals.specs.Refusals.{isDone}
-use Rattle.settings.specs.Settings.{isPartial, readConfig, readPartial}
+use Rattle.config_line.specs.ConfigLine.{readConfig}
+use Rattle.pn_line.specs.PnLine.{isPartial, readPartial}
 use Rattle.sleep.specs.Sleep.{reached}
 use Rattle.sleep.specs.Sleep as sleep
 use Rattle.text.specs.Runs.{after}

@@ -16,13 +16,15 @@ use Rattle.commands.specs.declared.Asked.the-variants.{Unreadable, Call}
 use Rattle.config.specs.declared.Config.{Config}
 use Rattle.decision.specs.Decision as calls
 use Rattle.frames.specs.Frames.{framed}
-use Rattle.pdu.specs.Fields.{Fields}
-use Rattle.pdu.specs.Pdu.{frameOf}
+use Rattle.layout.specs.Fields.{Fields}
+use Rattle.layout.specs.Layout.{frameOf}
 use Rattle.print.specs.Print.{decimal}
-use Rattle.report.specs.Report.{changeWord, dashed, frameText, headText, letterOf, lineMost, lineText, notesText, piece, wordOf}
+use Rattle.notes_text.specs.NotesText.{changeWord, dashed, notesText, piece, wordOf}
+use Rattle.report.specs.Report.{frameText, headText, letterOf, lineMost, lineText}
 use Rattle.report.proofs.Line.{length-line}
 use Rattle.settings.specs.declared.Setting.{Setting}
-use Rattle.settings.specs.Settings.{isPartial, readConfig, readPartial}
+use Rattle.config_line.specs.ConfigLine.{readConfig}
+use Rattle.pn_line.specs.PnLine.{isPartial, readPartial}
 use Rattle.text.specs.Blocks.{wholeLen, wholeLines}
 use Rattle.text.specs.Lines.{before, lineFeed, linesOf}
 use Rattle.text.specs.Runs.{outs}

@@ -8,7 +8,8 @@ use Rattle.commands.specs.declared.Asked.the-variants.{Unreadable, Call}
 use Rattle.config.specs.declared.Config.{Config}
 use Rattle.rules.specs.Rules.{firstBroken}
 use Rattle.decision.specs.Decision as calls
-use Rattle.settings.specs.Settings.{isPartial, readConfig, readPartial}
+use Rattle.config_line.specs.ConfigLine.{readConfig}
+use Rattle.pn_line.specs.PnLine.{isPartial, readPartial}
 use Rattle.sleep.specs.Sleep.{ChannelSleeps, reached}
 use Rattle.text.specs.Blocks.{cut, keptOf, wholeLines}
 use Rattle.text.specs.Runs.{after, joined}

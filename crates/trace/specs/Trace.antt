@@ -7,8 +7,10 @@ use Rattle.channel.specs.Channel.{fresh, initialised}
 use Rattle.config.specs.declared.Config.{Config}
 use Rattle.rules.specs.Rules.{ticksFor}
 use Rattle.refusals.specs.Refusals.{isDone}
-use Rattle.report.specs.Report.{dash, letterOf, lineMost}
-use Rattle.settings.specs.Settings.{isPartial, readConfig, readPartial}
+use Rattle.print.specs.Print.{dash}
+use Rattle.report.specs.Report.{letterOf, lineMost}
+use Rattle.config_line.specs.ConfigLine.{readConfig}
+use Rattle.pn_line.specs.PnLine.{isPartial, readPartial}
 use Rattle.text.specs.Lines.{linesOf}
 use Rattle.text.specs.Runs.{after, outs}
 use Rattle.replay.specs.declared.Phase.{Phase}

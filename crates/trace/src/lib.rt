@@ -52,7 +52,7 @@ fn holding(phase: Phase, next: u64, c: Config) -> Run
 pub fn start() -> Run
     ensures { λ r. ⌜ r ≡ start ⌝ }
 {
-    let s = settings::read_config(b"");
+    let s = config_line::read_config(b"");
     holding(Phase::First, FIRST_NUMBER, s.config)
 }
 
@@ -81,7 +81,7 @@ fn broken(run: Run, out: &mut [u8], at: usize) -> Step
     requires { ⌜ at + lineMost ≤ length (now out) ⌝ }
     ensures { λ r. ⌜ Gives (broken run) (now (out .entry)) at (now (out .exit)) r ⌝ }
 {
-    let p = replay::put_bare(out, at, run.next, replay::UNREADABLE, report::DASH);
+    let p = replay::put_bare(out, at, run.next, replay::UNREADABLE, print::DASH);
     Step {
         run: passed(run, Phase::Ended),
         at: p,
@@ -98,7 +98,7 @@ fn begin(c: Config, n: u64, out: &mut [u8], at: usize) -> Step
     let mode = s.channel.own.mode;
     let state = mode.state;
     let done = refusals::is_done(answer);
-    let letter = choice::pick8(done, report::letter(state), report::DASH);
+    let letter = choice::pick8(done, report::letter(state), print::DASH);
     let p = replay::put_bare(out, at, FIRST_NUMBER, replay::digit(answer), letter);
     let channel = s.channel;
     Step {
@@ -116,7 +116,7 @@ fn first_line(run: Run, l: &[u8], out: &mut [u8], at: usize) -> Step
     requires { ⌜ at + lineMost ≤ length (now out) ⌝ }
     ensures { λ r. ⌜ Gives (firstLine run (now (l .entry))) (now (out .entry)) at (now (out .exit)) r ⌝ }
 {
-    let s = settings::read_config(l);
+    let s = config_line::read_config(l);
     if s.readable {
         return Step {
             run: holding(Phase::Second, replay::counted(run.next), s.config),
@@ -131,7 +131,7 @@ fn partial_line(run: Run, l: &[u8], out: &mut [u8], at: usize) -> Step
     requires { ⌜ at + lineMost ≤ length (now out) ⌝ }
     ensures { λ r. ⌜ Gives (partialLine run (now (l .entry))) (now (out .entry)) at (now (out .exit)) r ⌝ }
 {
-    let s = settings::read_partial(run.channel.own.config, l);
+    let s = pn_line::read_partial(run.channel.own.config, l);
     if s.readable {
         return begin(s.config, replay::counted(run.next), out, at);
     }
@@ -158,7 +158,7 @@ fn second_line(run: Run, l: &[u8], out: &mut [u8], at: usize) -> Step
     requires { ⌜ at + room ≤ length (now out) ⌝ }
     ensures { λ r. ⌜ Gives (secondLine run (now (l .entry))) (now (out .entry)) at (now (out .exit)) r ⌝ }
 {
-    if settings::is_partial(l) {
+    if pn_line::is_partial(l) {
         return partial_line(run, l, out, at);
     }
     let s = begin(run.channel.own.config, run.next, out, at);

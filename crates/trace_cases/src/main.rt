@@ -109,7 +109,7 @@ fn agrees(
     if !s.whole {
         return false;
     }
-    passes(pdu::part(text, 0, t.n), pdu::part(stored, 0, s.n), out)
+    passes(bytes::part(text, 0, t.n), bytes::part(stored, 0, s.n), out)
 }
 
 // Says that a trace differs, or the list itself.
@@ -168,7 +168,7 @@ fn run(
         tell(list);
         return;
     }
-    let good = count(pdu::part(names, 0, g.n), text, stored, out);
+    let good = count(bytes::part(names, 0, g.n), text, stored, out);
     io::print_decimal(STDOUT_FILENO, good);
     io::write_all(STDOUT_FILENO, b" traces print what is stored\n");
 }

@@ -4,7 +4,7 @@ use native.Mathlib.Omega.{arith}
 use borrow.Author.Needs.{needs}
 use borrow.Author.Tests.{eq-eqb, ne-eqb}
 use Rattle.text.specs.Filled.{Filled}
-use Rattle.fields.proofs.Hex.{pairs-short}
+use Rattle.hex.proofs.Hex.{pairs-short}
 use Rattle.commands.specs.Commands.{hexRead}
 use Rattle.commands.proofs.read_hex.Statement.{statement}
 use Rattle.commands.proofs.read_hex.Tie as tie

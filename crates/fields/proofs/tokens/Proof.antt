@@ -9,7 +9,7 @@ use Rattle.text.proofs.Lines.{found-le}
 use Rattle.fields.specs.Fields.{fieldsFrom, tab}
 use Rattle.fields.specs.Numbers.{tokenOf, tokensOf}
 use Rattle.fields.proofs.Fields.{fields-start, fields-at, fields-end}
-use Rattle.fields.proofs.Filling.{Filling, filling-start, filling-one, filling-end}
+use Rattle.text.proofs.Filling.{Filling, filling-start, filling-one, filling-end}
 use Rattle.fields.proofs.tokens.Statement.{statement}
 use Rattle.fields.proofs.tokens.Tie as tie
 

@@ -4,8 +4,9 @@ use native.Mathlib.Omega.{arith}
 use borrow.Author.Needs.{needs}
 use lib.ListN.{length}
 use Rattle.print.proofs.Wrote.{then}
-use Rattle.report.specs.Report.{headMost, lineText, notesMost}
-use Rattle.report.proofs.Notes.{length-notes}
+use Rattle.notes_text.specs.NotesText.{notesMost}
+use Rattle.report.specs.Report.{headMost, lineText}
+use Rattle.notes_text.proofs.Notes.{length-notes}
 use Rattle.report.proofs.Line.{length-head, length-frame}
 use Rattle.report.proofs.put_line.Statement.{statement}
 use Rattle.report.proofs.put_line.Tie as tie
