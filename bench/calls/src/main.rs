@@ -53,7 +53,8 @@ fn about() -> String {
     let (channel, host) = (channel_calls::CALLS, host_calls::CALLS);
     format!(
         "\
-Each side ran {ROUNDS} stretches of each row, in turn with the other. The fastest stretch of each counts, and both gave the same.
+Each side ran {ROUNDS} stretches of calls for each row, in turn with the other. The fastest stretch of each counts, and
+both gave the same.
 
 - Ticks and PDUs: {channel} calls on one channel, which the product takes by value and the reference by `&mut`. Both
   judge in every call whether the channel is sound. It is in Normal Operation, and one tick in ten sends a frame.
