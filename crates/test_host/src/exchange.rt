@@ -150,7 +150,7 @@ fn traffic_in(w: &[u64]) -> Traffic {
     }
 }
 
-fn channel_in(w: &[u64]) -> Channel {
+pub fn channel_in(w: &[u64]) -> Channel {
     let mut era = [0; Channel::TIMERS];
     load_timers(w, 65, &mut era);
     let mut eira = [0; Channel::TIMERS];
@@ -289,7 +289,7 @@ fn put_tables(w: &mut [u64], ch: Channel) {
     put_timers(w, 121, &eira);
 }
 
-fn put_channel(w: &mut [u64], ch: Channel) {
+pub fn put_channel(w: &mut [u64], ch: Channel) {
     put_times(w, ch.own.config);
     put_layout(w, ch.own.config);
     put_partial(w, ch.own.config);

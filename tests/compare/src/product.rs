@@ -76,7 +76,8 @@ pub struct Shown {
     pub lowest: u32,
 }
 
-mod raw {
+/// The functions as the libraries export them.
+pub mod raw {
     use super::{Begun, Called, Composed, Filter, Header, Place, Shown, Ticks};
 
     extern "C" {
