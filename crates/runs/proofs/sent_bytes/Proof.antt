@@ -1,7 +1,7 @@
--- `replay::sent_bytes` meets its contract. Assumes nothing.
-use Rattle.replay.specs.Replay.{sentBytes}
-use Rattle.replay.proofs.sent_bytes.Statement.{statement}
-use Rattle.replay.proofs.sent_bytes.Tie as tie
+-- `runs::sent_bytes` meets its contract. Assumes nothing.
+use Rattle.runs.specs.Runs.{sentBytes}
+use Rattle.runs.proofs.sent_bytes.Statement.{statement}
+use Rattle.runs.proofs.sent_bytes.Tie as tie
 
 returns : tie.Need-returns
 unfolding sentBytes

@@ -1,8 +1,8 @@
--- `replay::digit` meets its contract. Assumes nothing.
+-- `runs::digit` meets its contract. Assumes nothing.
 use native.Mathlib.Omega.{arith}
-use Rattle.replay.proofs.Laws.{number-le}
-use Rattle.replay.proofs.digit.Statement.{statement}
-use Rattle.replay.proofs.digit.Tie as tie
+use Rattle.runs.proofs.Laws.{number-le}
+use Rattle.runs.proofs.digit.Statement.{statement}
+use Rattle.runs.proofs.digit.Tie as tie
 
 add-result : tie.Need-add-result
 add-result c = omega (arith, number-le (c .before .args .a), c .number .ensures)

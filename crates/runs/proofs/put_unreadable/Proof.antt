@@ -1,8 +1,8 @@
--- `replay::put_unreadable` meets its contract. Assumes nothing.
+-- `runs::put_unreadable` meets its contract. Assumes nothing.
 use native.Mathlib.Omega.{arith}
 use borrow.Author.Needs.{needs}
-use Rattle.replay.proofs.put_unreadable.Statement.{statement}
-use Rattle.replay.proofs.put_unreadable.Tie as tie
+use Rattle.runs.proofs.put_unreadable.Statement.{statement}
+use Rattle.runs.proofs.put_unreadable.Tie as tie
 
 returns : tie.Need-returns
 returns c = let p = c .before .before in rw (p .before .letter .ensures) at (p .put-bare .ensures)

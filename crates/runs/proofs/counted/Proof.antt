@@ -1,9 +1,9 @@
--- `replay::counted` meets its contract. Assumes nothing.
+-- `runs::counted` meets its contract. Assumes nothing.
 use borrow.Author.Needs.{needs}
 use borrow.Author.Tests.{lt-ltb, le-ltb}
-use Rattle.replay.specs.Replay.{counted}
-use Rattle.replay.proofs.counted.Statement.{statement}
-use Rattle.replay.proofs.counted.Tie as tie
+use Rattle.runs.specs.Runs.{counted}
+use Rattle.runs.proofs.counted.Statement.{statement}
+use Rattle.runs.proofs.counted.Tie as tie
 
 returns : tie.Need-returns
 unfolding counted

@@ -1,8 +1,8 @@
--- `dispatch::carry_out_whole` meets its contract. Assumes nothing.
+-- `dispatch_in_place::carry_out_whole` meets its contract. Assumes nothing.
 use borrow.Author.Needs.{needs}
-use Rattle.dispatch.proofs.Kept.{put-together}
-use Rattle.dispatch.proofs.carry_out_whole.Statement.{statement}
-use Rattle.dispatch.proofs.carry_out_whole.Tie as tie
+use Rattle.dispatch_in_place.proofs.Kept.{put-together}
+use Rattle.dispatch_in_place.proofs.carry_out_whole.Statement.{statement}
+use Rattle.dispatch_in_place.proofs.carry_out_whole.Tie as tie
 
 returns : tie.Need-returns
 returns c = rw (c .effect-of .ensures) (put-together _ _ _ (rw (c .before .before .before .before .before .before .before .before .before .channel-of .ensures) at (c .before .before .before .before .before .before .before .carry-out .ensures)))

@@ -1,9 +1,9 @@
--- `replay::put_bare` meets its contract. Assumes nothing.
+-- `runs::put_bare` meets its contract. Assumes nothing.
 use native.Mathlib.Omega.{arith}
 use borrow.Author.Needs.{needs}
-use Rattle.replay.specs.Replay.{bareText}
-use Rattle.replay.proofs.put_bare.Statement.{statement}
-use Rattle.replay.proofs.put_bare.Tie as tie
+use Rattle.runs.specs.Runs.{bareText}
+use Rattle.runs.proofs.put_bare.Statement.{statement}
+use Rattle.runs.proofs.put_bare.Tie as tie
 
 returns : tie.Need-returns
 unfolding bareText

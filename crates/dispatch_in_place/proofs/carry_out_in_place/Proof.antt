@@ -1,11 +1,11 @@
--- `dispatch::carry_out_in_place` meets its contract. Assumes nothing.
+-- `dispatch_in_place::carry_out_in_place` meets its contract. Assumes nothing.
 use mathlib.Core.Path.{refl}
 use borrow.Author.Needs.{needs}
 use Rattle.channel.specs.Channel.{tickedBy}
 use Rattle.dispatch.specs.Calls.{carriedOutBy}
 use Rattle.dispatch.proofs.Unframed.{unframed}
-use Rattle.dispatch.proofs.carry_out_in_place.Statement.{statement}
-use Rattle.dispatch.proofs.carry_out_in_place.Tie as tie
+use Rattle.dispatch_in_place.proofs.carry_out_in_place.Statement.{statement}
+use Rattle.dispatch_in_place.proofs.carry_out_in_place.Tie as tie
 
 returns : tie.Need-returns
 unfolding carriedOutBy tickedBy
