@@ -69,12 +69,14 @@ fn whole_lines(run: Run, text: &[u8], out: &mut [u8]) -> Step
     lines(run, &text[..whole], out)
 }
 
-// The last lines of the input, and its end. There must be room for what each prints, and for a line behind them.
-fn last_lines(run: Run, text: &[u8], out: &mut [u8]) -> usize
-    requires { ⌜ room * (length (now text) + 1) ≤ length (now out) ⌝ }
-    ensures { λ r. ⌜ Wrote (now (out .entry)) 0 (printedFrom run (now (text .entry))) (now (out .exit)) r ⌝ }
+// The text in the first n bytes of the buffer, whose lines are the last of the input, and the end of the input behind them.
+// There must be room for what each line prints, and for a line behind them.
+fn last_lines(run: Run, buf: &[u8], n: usize, out: &mut [u8]) -> usize
+    requires { ⌜ room * (length (now buf) + 1) ≤ length (now out) ⌝ }
+    ensures { λ r. ⌜ Wrote (now (out .entry)) 0 (printedFrom run (take n (now (buf .entry)))) (now (out .exit)) r ⌝ }
+    ensures { λ r. ⌜ r ≤ length (now (out .entry)) ⌝ }
 {
-    let s = lines(run, text, out);
+    let s = lines(run, pdu::part(buf, 0, n), out);
     trace_line::finish(s.run, out, s.at)
 }
 
@@ -126,5 +128,5 @@ pub fn end(run: Run, buf: &[u8; BUFFER], n: usize, out: &mut [u8; OUTPUT]) -> us
     ensures { λ r. ⌜ Wrote (now (out .entry)) 0 (printedFrom run (take n (now (buf .entry)))) (now (out .exit)) r ⌝ }
     ensures { λ r. ⌜ r ≤ length (now (out .entry)) ⌝ }
 {
-    end_of(run, buf, n, out)
+    last_lines(run, buf, n, out)
 }
