@@ -10,12 +10,14 @@ use Rattle.config.specs.declared.Config.{Config}
 use Rattle.settings.specs.declared.Setting.{Setting}
 use Rattle.settings.proofs.Cut.{Alike, is-partial-cut, read-config-cut, read-partial-cut}
 use Rattle.text.specs.Blocks.{cut}
-use Rattle.replay.specs.declared.Phase.{Phase}
-use Rattle.replay.specs.declared.Phase.the-variants.{First, Second, Running, Ended}
-use Rattle.replay.specs.declared.Run.{Run}
-use Rattle.trace.specs.Claims.{EveryLineIsCut}
-use Rattle.replay.specs.Replay.{Outcome, bytesMost, counted, doing, laterLine, outcome}
-use Rattle.trace.specs.Trace.{begun, broken, firstLine, following, holding, lineIn, partialLine, secondLine}
+use Rattle.runs.specs.declared.Phase.{Phase}
+use Rattle.runs.specs.declared.Phase.the-variants.{First, Second, Running, Ended}
+use Rattle.runs.specs.declared.Run.{Run}
+use Rattle.runs.specs.Runs.{Outcome, counted, outcome}
+use Rattle.replay.specs.Replay.{bytesMost, doing, laterLine}
+use Rattle.config_lines.specs.ConfigLines.{begun, broken, firstLine, holding, partialLine}
+use Rattle.trace_line.specs.TraceLine.{following, lineIn, secondLine}
+use Rattle.trace_claims.specs.Claims.{EveryLineIsCut}
 
 -- settings that can't be told apart come to the same
 same-by : (f : Config → Outcome) (g : Outcome) {s t : Setting} → Alike s t

@@ -20,12 +20,15 @@ use Rattle.sleep.specs.Sleep.{reached}
 use Rattle.sleep.specs.Sleep as sleep
 use Rattle.text.specs.Runs.{after}
 use Rattle.dispatch.specs.Calls.{carriedOutBy}
-use Rattle.replay.specs.declared.Phase.{Phase}
-use Rattle.replay.specs.declared.Phase.the-variants.{Second, Running, Ended}
-use Rattle.replay.specs.declared.Run.{Run}
-use Rattle.trace.specs.Claims.{callsIn, callsOf, configIn, linesBehind}
-use Rattle.replay.specs.Replay.{called, counted, doing, laterLine, outcome, passed, readingOf, repliedWith, runOf, unread}
-use Rattle.trace.specs.Trace.{begun, broken, firstLine, firstNumber, following, holding, judgedPhase, lineIn, partialLine, secondLine, start, stepOf}
+use Rattle.runs.specs.declared.Phase.{Phase}
+use Rattle.runs.specs.declared.Phase.the-variants.{Second, Running, Ended}
+use Rattle.runs.specs.declared.Run.{Run}
+use Rattle.runs.specs.Runs.{counted, outcome, passed, runOf}
+use Rattle.replay.specs.Replay.{called, doing, laterLine, readingOf, repliedWith, unread}
+use Rattle.config_lines.specs.ConfigLines.{begun, broken, firstLine, firstNumber, holding, judgedPhase, partialLine}
+use Rattle.trace_line.specs.TraceLine.{following, lineIn, secondLine, stepOf}
+use Rattle.trace.specs.Trace.{start}
+use Rattle.trace_claims.specs.Claims.{callsIn, callsOf, configIn, linesBehind}
 
 -- ---- a run that has ended stays so
 

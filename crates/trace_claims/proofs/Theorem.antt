@@ -7,12 +7,15 @@ use Rattle.sleep.proofs.Theorem.{every-channel-sleeps}
 use Rattle.text.specs.Blocks.{keptOf, wholeLines}
 use Rattle.text.specs.Runs.{after, afterBlocks, outsBlocks}
 use Rattle.text.proofs.Blocks.{after-blocks, outs-blocks}
-use Rattle.replay.specs.declared.Run.{Run}
-use Rattle.trace.specs.Claims.{EveryCutPrints, EveryLineIsCut, EveryRunReaches, printedOver}
-use Rattle.replay.specs.Replay.{Outcome}
-use Rattle.trace.specs.Trace.{ending, holding, linesFrom, printedFrom, start, stepOf, textOf}
-use Rattle.trace.proofs.Cut.{line-cut}
-use Rattle.trace.proofs.Reached.{first-waits, reached-from}
+use Rattle.runs.specs.declared.Run.{Run}
+use Rattle.runs.specs.Runs.{Outcome}
+use Rattle.config_lines.specs.ConfigLines.{holding}
+use Rattle.trace_line.specs.TraceLine.{ending, stepOf, textOf}
+use Rattle.call_lines.specs.CallLines.{linesFrom}
+use Rattle.trace.specs.Trace.{printedFrom, start}
+use Rattle.trace_claims.specs.Claims.{EveryCutPrints, EveryLineIsCut, EveryRunReaches, printedOver}
+use Rattle.trace_claims.proofs.Cut.{line-cut}
+use Rattle.trace_claims.proofs.Reached.{first-waits, reached-from}
 
 -- ---- the channel of a run
 

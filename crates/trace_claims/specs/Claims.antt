@@ -12,18 +12,20 @@ use Rattle.settings.specs.Settings.{isPartial, readConfig, readPartial}
 use Rattle.sleep.specs.Sleep.{ChannelSleeps, reached}
 use Rattle.text.specs.Blocks.{cut, keptOf, wholeLines}
 use Rattle.text.specs.Runs.{after, joined}
-use Rattle.dispatch.specs.Calls.{callOf}
-use Rattle.replay.specs.declared.Phase.the-variants.{Running}
-use Rattle.replay.specs.declared.Run.{Run}
+use Rattle.dispatch.specs.Calls.{callFor}
+use Rattle.runs.specs.declared.Phase.the-variants.{Running}
+use Rattle.runs.specs.declared.Run.{Run}
 use Rattle.replay.specs.Replay.{frameMost, readingOf}
-use Rattle.trace.specs.Trace.{lineOf, linesFrom, printed, printedFrom, start, stepOf}
+use Rattle.trace_line.specs.TraceLine.{lineOf, stepOf}
+use Rattle.call_lines.specs.CallLines.{linesFrom}
+use Rattle.trace.specs.Trace.{printed, printedFrom, start}
 
 -- ---- the calls of a trace
 
 -- the call of a line, none where it can't be read
 abbrev pub callsOf : Asked → List ℕ → List calls.Call
 callsOf Unreadable bytes = []
-callsOf (Call k) bytes = callOf k bytes frameMost ∷ []
+callsOf (Call k) bytes = callFor k bytes frameMost ∷ []
 
 -- the calls of lines in their order
 unfoldable pub callsIn : List (List ℕ) → List calls.Call
