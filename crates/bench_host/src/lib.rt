@@ -2,7 +2,7 @@
 // of an independent implementation. Nothing of the product stands on this crate.
 //
 // Promises: nothing of its results, only that each run ends and goes without an error. Leaves to others: what a call
-// does (`tick`, `inputs`), and the channel as words (`test_host::exchange`).
+// does (`tick`, `reception`), and the channel as words (`test_host::exchange`).
 use answers::Answer;
 use channel::state::Notes;
 use states::Note;

@@ -1,53 +1,17 @@
 // The trace program: a trace on standard input, what it prints on standard output, in memory that does not grow with it.
 //
-// Promises: safe and ending on any input, and `block`, the turn between reading and writing: the run over a block's whole
-// lines, their text, and what is kept of the unfinished line. That blocks print what the whole trace prints is proved in
-// `trace`. No contract can say which bytes are read and written; that they are the input's and the text's is tested.
+// Promises: safe and ending on any input. What a block and the end of the input print is promised by `trace`, and that
+// blocks print what the whole trace prints is proved in `trace_claims`. No contract can say which bytes are read and
+// written; that they are the input's and the text's is tested.
 use libc::STDIN_FILENO;
 use libc::STDOUT_FILENO;
-use replay::Run;
-use replay::Step;
+use runs::Run;
+use trace::BUFFER;
+use trace::OUTPUT;
 ghost use mathlib.Core.Path.{_≡_};
-ghost use Prim.Native.Nat.{_+_, _*_, _≤_};
-ghost use lib.ListN.{length, take};
-ghost use Rattle.text.specs.Blocks.{keeping, lineMost, wholeLines};
-ghost use Rattle.text.specs.Filled.{filled};
-ghost use Rattle.replay.specs.Replay.{Gives};
-ghost use Rattle.trace.specs.Trace.{linesFrom, room};
-
-// ---- sizes
-
-// What is read at once.
-const BLOCK: usize = 65536;
-
-// A block behind what is kept of a line.
-const BUFFER: usize = text::LINE_MOST + 1 + BLOCK;
-
-// What the lines of a full buffer can print.
-const OUTPUT: usize = trace::ROOM * BUFFER;
-
-// ---- a block
-
-// The run after a block, how many bytes it printed, and how many are kept.
-struct Ran {
-    step: Step,
-    kept: usize,
-}
-
-// The text in the first n bytes of the buffer: its whole lines are run and printed, what is kept of its unfinished line
-// moves to the front. There must be room for what a full buffer prints.
-fn block(run: Run, buf: &mut [u8], n: usize, out: &mut [u8]) -> Ran
-    requires { ⌜ (n ≤ length (now buf)) × (room * length (now buf) ≤ length (now out)) ⌝ }
-    ensures { λ r. ⌜ Gives (linesFrom run (wholeLines (take n (now (buf .entry))))) (now (out .entry)) 0 (now (out .exit)) (r .step) ⌝ }
-    ensures { λ r. ⌜ filled (r .kept) (now (buf .exit)) ≡ keeping n (now (buf .entry)) ⌝ }
-{
-    let s = trace::whole_lines(run, &buf[..n], out);
-    let kept = text::keep_unfinished(buf, n);
-    Ran {
-        step: s,
-        kept: kept,
-    }
-}
+ghost use Prim.Native.Nat.{_+_, _≤_};
+ghost use lib.ListN.{length};
+ghost use Rattle.text.specs.Blocks.{lineMost};
 
 // ---- reading
 
@@ -87,6 +51,15 @@ fn read_more(buf: &mut [u8], kept: usize) -> Got
     }
 }
 
+// ---- writing
+
+// The first n bytes of the output. Answers whether all were written.
+fn write_front(out: &[u8], n: usize) -> bool
+    requires { ⌜ n ≤ length (now out) ⌝ }
+{
+    io::write_all(STDOUT_FILENO, &out[..n])
+}
+
 // ---- the loop
 
 // The run between two turns, how many bytes are kept in front of the buffer, and whether there is to be another turn.
@@ -94,14 +67,6 @@ struct State {
     run: Run,
     kept: usize,
     more: bool,
-}
-
-// The end of the input: what was kept is the last line.
-fn end(run: Run, kept: &[u8], out: &mut [u8])
-    requires { ⌜ room * (length (now kept) + 1) ≤ length (now out) ⌝ }
-{
-    let n = trace::last_lines(run, kept, out);
-    io::write_all(STDOUT_FILENO, &out[..n]);
 }
 
 // The state after the last turn.
@@ -118,8 +83,8 @@ fn stopped(st: State) -> State
 
 // One read, and what it brings. After a write that fails, nothing more is read. After a read that fails, nothing more is
 // printed: what the unfinished line would have said is not known.
-fn turn(st: State, buf: &mut [u8], out: &mut [u8]) -> State
-    requires { ⌜ (st .kept ≤ lineMost + 1) × (lineMost + 2 ≤ length (now buf)) × (room * length (now buf) ≤ length (now out)) ⌝ }
+fn turn(st: State, buf: &mut [u8; BUFFER], out: &mut [u8; OUTPUT]) -> State
+    requires { ⌜ st .kept ≤ lineMost + 1 ⌝ }
     ensures { λ r. ⌜ r .kept ≤ lineMost + 1 ⌝ }
 {
     let kept = st.kept;
@@ -128,10 +93,10 @@ fn turn(st: State, buf: &mut [u8], out: &mut [u8]) -> State
     let input = g.input;
     match input {
         Input::More => {
-            let r = block(st.run, buf, all, out);
+            let r = trace::block(st.run, buf, all, out);
             let s = r.step;
             let at = s.at;
-            let ok = io::write_all(STDOUT_FILENO, &out[..at]);
+            let ok = write_front(out, at);
             let run = s.run;
             State {
                 run: run,
@@ -140,7 +105,8 @@ fn turn(st: State, buf: &mut [u8], out: &mut [u8]) -> State
             }
         }
         Input::End => {
-            end(st.run, &buf[..kept], out);
+            let n = trace::end(st.run, buf, kept, out);
+            write_front(out, n);
             stopped(st)
         }
         Input::Failed => stopped(st),

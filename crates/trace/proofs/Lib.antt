@@ -1,5 +1,1 @@
-mod Steps
 pub mod Room
-mod Cut
-mod Reached
-pub mod Theorem

@@ -5,25 +5,24 @@
 // (tests/vectors). No contract can say which bytes a file has.
 use libc::STDOUT_FILENO;
 use text::Span;
+use trace::BUFFER;
+use trace::OUTPUT;
 ghost use mathlib.Core.Path.{_≡_};
 ghost use mathlib.Core.Bool.{true};
 ghost use mathlib.Core.List.{_++_};
-ghost use Prim.Native.Nat.{_+_, _*_, _≤_};
-ghost use lib.ListN.{length};
+ghost use Prim.Native.Nat.{_+_, _≤_};
+ghost use lib.ListN.{length, take};
 ghost use Rattle.print.specs.Print.{Wrote};
-ghost use Rattle.trace.specs.Trace.{printed, room};
+ghost use Rattle.trace.specs.Trace.{printed};
 
 // ---- sizes: what is longer counts as a difference
 
-// The most bytes of the list, of a trace or a stored output, and of the name of a file.
+// The most bytes of the list, of a stored output, and of the name of a file. A trace has room in a buffer of `trace`.
 const NAMES_MOST: usize = 16384;
 
 const FILE_MOST: usize = 2048;
 
 const PATH_MOST: usize = 128;
-
-// What the longest trace can print, with a line at its end.
-const OUTPUT: usize = trace::ROOM * (FILE_MOST + 1);
 
 // ---- files
 
@@ -85,19 +84,18 @@ fn read_named(name: &[u8], ending: &[u8], buf: &mut [u8]) -> Got {
 
 // ---- traces
 
-// Is the stored output what the trace prints? There must be room for what it can print.
-fn passes(text: &[u8], stored: &[u8], out: &mut [u8]) -> bool
-    requires { ⌜ room * (length (now text) + 1) ≤ length (now out) ⌝ }
-    ensures { λ r. ⌜ (r ≡ true → printed (now (text .entry)) ≡ now (stored .entry)) × (printed (now (text .entry)) ≡ now (stored .entry) → r ≡ true) ⌝ }
+// Is the stored output what the trace in the first n bytes of the buffer prints?
+fn passes(text: &[u8; BUFFER], n: usize, stored: &[u8], out: &mut [u8; OUTPUT]) -> bool
+    ensures { λ r. ⌜ (r ≡ true → printed (take n (now (text .entry))) ≡ now (stored .entry)) × (printed (take n (now (text .entry))) ≡ now (stored .entry) → r ≡ true) ⌝ }
 {
-    let n = trace::last_lines(trace::start(), text, out);
-    check::same(&out[..n], stored)
+    let end = trace::end(trace::start(), text, n, out);
+    check::same(bytes::part(out, 0, end), stored)
 }
 
 // Does the trace of a name print what is stored?
 fn agrees(
     name: &[u8],
-    text: &mut [u8; FILE_MOST],
+    text: &mut [u8; BUFFER],
     stored: &mut [u8; FILE_MOST],
     out: &mut [u8; OUTPUT],
 ) -> bool {
@@ -109,7 +107,7 @@ fn agrees(
     if !s.whole {
         return false;
     }
-    passes(bytes::part(text, 0, t.n), bytes::part(stored, 0, s.n), out)
+    passes(text, t.n, bytes::part(stored, 0, s.n), out)
 }
 
 // Says that a trace differs, or the list itself.
@@ -121,7 +119,7 @@ fn tell(name: &[u8]) {
 // 1 for a trace that prints what is stored; 0, and its name is printed, for one that differs.
 fn judged(
     name: &[u8],
-    text: &mut [u8; FILE_MOST],
+    text: &mut [u8; BUFFER],
     stored: &mut [u8; FILE_MOST],
     out: &mut [u8; OUTPUT],
 ) -> u64
@@ -137,7 +135,7 @@ fn judged(
 // How many traces of a list print what is stored.
 fn count(
     names: &[u8],
-    text: &mut [u8; FILE_MOST],
+    text: &mut [u8; BUFFER],
     stored: &mut [u8; FILE_MOST],
     out: &mut [u8; OUTPUT],
 ) -> u64 {
@@ -158,7 +156,7 @@ fn count(
 
 fn run(
     names: &mut [u8; NAMES_MOST],
-    text: &mut [u8; FILE_MOST],
+    text: &mut [u8; BUFFER],
     stored: &mut [u8; FILE_MOST],
     out: &mut [u8; OUTPUT],
 ) {
@@ -175,7 +173,7 @@ fn run(
 
 fn main() {
     let mut names = [0u8; NAMES_MOST];
-    let mut text = [0u8; FILE_MOST];
+    let mut text = [0u8; BUFFER];
     let mut stored = [0u8; FILE_MOST];
     let mut out = [0u8; OUTPUT];
     run(&mut names, &mut text, &mut stored, &mut out);

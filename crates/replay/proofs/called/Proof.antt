@@ -4,7 +4,7 @@ use lib.ListN.{length}
 use native.Mathlib.Omega.{arith}
 use borrow.Author.Needs.{needs}
 use Rattle.replay.specs.Replay.{called, repliedWith, replyText}
-use Rattle.replay.proofs.Laws.{sent-le}
+use Rattle.runs.proofs.Laws.{sent-le}
 use Rattle.replay.proofs.called.Statement.{statement}
 use Rattle.replay.proofs.called.Tie as tie
 

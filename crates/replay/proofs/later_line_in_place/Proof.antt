@@ -2,7 +2,8 @@
 use mathlib.Core.Path.{refl}
 use native.Mathlib.Omega.{arith}
 use borrow.Author.Needs.{needs}
-use Rattle.replay.specs.Replay.{laterLine, passed, unread}
+use Rattle.runs.specs.Runs.{passed}
+use Rattle.replay.specs.Replay.{laterLine, unread}
 use Rattle.replay.proofs.later_line_in_place.Statement.{statement}
 use Rattle.replay.proofs.later_line_in_place.Tie as tie
 

@@ -7,9 +7,10 @@ use lib.ListN.{length, take, drop}
 use Rattle.print.proofs.Wrote.{wrote-length}
 use Rattle.text.specs.Lines.{lineFeed, linesOf, until}
 use Rattle.text.proofs.Lines.{lines-at, lines-none, span-line, span-end}
-use Rattle.trace.specs.Trace.{room}
-use Rattle.trace.proofs.Room.{line-le}
-use Rattle.trace.proofs.Steps.{Going, going-start, going-on, going-rest, going-end, running-true}
+use Rattle.trace_line.specs.TraceLine.{room}
+use Rattle.trace_line.proofs.Room.{line-le}
+use Rattle.trace_line.proofs.Steps.{running-true}
+use Rattle.call_lines.proofs.Going.{Going, going-start, going-on, going-rest, going-end}
 use Rattle.trace.proofs.lines.Statement.{statement}
 use Rattle.trace.proofs.lines.Tie as tie
 

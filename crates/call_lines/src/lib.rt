@@ -1,0 +1,77 @@
+// The lines of a trace behind the configuration, one behind the other on one channel.
+//
+// Promises: the run after all of them and the text that they print, by the definition of specs/CallLines. Leaves to others:
+// what one line comes to (`replay`), and the lines of the configuration before them (`trace`).
+use runs::Phase;
+use runs::Run;
+use runs::Step;
+use text::Span;
+ghost use mathlib.Core.Path.{_≡_};
+ghost use Prim.Native.Nat.{_*_, _≤_};
+ghost use lib.ListN.{length, drop};
+ghost use Rattle.text.specs.Lines.{linesOf};
+ghost use Rattle.runs.specs.declared.Phase.the-variants.{Running};
+ghost use Rattle.runs.specs.Runs.{Gives};
+ghost use Rattle.trace_line.specs.TraceLine.{room};
+ghost use Rattle.call_lines.specs.CallLines.{linesFrom};
+
+// The lines of a text behind the configuration, from a place of the text on, printed from a place of the buffer on. What the
+// configuration comes to is found once for all lines. There must be room for what each prints.
+pub fn running(run: Run, text: &[u8], from: usize, out: &mut [u8], begin: usize) -> Step
+    requires { ⌜ (run .phase ≡ Running) × (begin ≤ room * from) × (room * length (now text) ≤ length (now out)) ⌝ }
+    ensures { λ r. ⌜ Gives (linesFrom run (linesOf (drop from (now (text .entry))))) (now (out .entry)) begin (now (out .exit)) r ⌝ }
+{
+    let c = run.channel.own.config;
+    let t = run.channel.own.ticks;
+    let passes = soundness::configured(c, t);
+    let setup = traffic::setup_of(c, t);
+    let mut tops = [0u16; 56];
+    soundness::put_tops(c, t, &mut tops);
+    let mut m = run.channel.own.mode;
+    let mut x = run.channel.own.traffic;
+    let mut user = run.channel.own.user;
+    let mut requests = run.channel.own.requests;
+    let mut era = run.channel.own.era;
+    let mut eira = run.channel.eira;
+    let mut n = run.next;
+    let mut put = begin;
+    let mut at = from;
+    loop {
+        match text::line_at(text, at) {
+            Span::Line(first, end) => {
+                let ok = soundness::sound_by(passes, setup, m, x, &tops, &era, &eira);
+                let s = replay::later_line_in_place(
+                    ok,
+                    c,
+                    t,
+                    m,
+                    x,
+                    &mut user,
+                    &mut requests,
+                    &mut era,
+                    &mut eira,
+                    n,
+                    &text[first..end],
+                    out,
+                    put,
+                );
+                m = s.mode;
+                x = s.traffic;
+                n = runs::counted(n);
+                put = s.at;
+                at = end + 1;
+            }
+            Span::End => {
+                let channel = channel::channel_of(c, t, m, x, user, requests, era, eira);
+                return Step {
+                    run: Run {
+                        phase: Phase::Running,
+                        next: n,
+                        channel: channel,
+                    },
+                    at: put,
+                };
+            }
+        }
+    }
+}

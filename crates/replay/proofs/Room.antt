@@ -1,0 +1,70 @@
+-- How much room the text of a line behind the configuration takes. Assumes nothing.
+use mathlib.Core.Path.{_≡_, refl}
+use mathlib.Core.Bool.{Bool, true, false, cond}
+use mathlib.Core.List.{List}
+use Prim.Native.Nat.{ℕ, _+_, _*_, _≤_}
+use native.Mathlib.Omega.{arith}
+use lib.ListN.{length, replicate, set, length-set}
+use lib.Seq.{length-sets}
+use Rattle.answers.specs.Answers.{numberOf}
+use Rattle.channel.specs.declared.state.Channel.{Channel}
+use Rattle.channel.specs.Channel.{frameAfter, replied, trafficMoved}
+use Rattle.commands.specs.declared.Command.{Command}
+use Rattle.commands.specs.declared.Asked.{Asked}
+use Rattle.commands.specs.declared.Asked.the-variants.{Unreadable, Call}
+use Rattle.config.specs.declared.Config.{Config}
+use Rattle.decision.specs.Decision as calls
+use Rattle.frames.specs.Frames.{framed}
+use Rattle.layout.specs.Fields.{Fields}
+use Rattle.layout.specs.Layout.{frameOf}
+use Rattle.report.specs.Report.{letterOf}
+use Rattle.report.proofs.Line.{length-line}
+use Rattle.dispatch.specs.Calls.{callFor, carriedOutBy}
+use Rattle.runs.specs.declared.Run.{Run}
+use Rattle.runs.specs.Runs.{digitOf, printedMost, sentBytes}
+use Rattle.runs.proofs.Laws.{bare-le, sent-le}
+use Rattle.replay.specs.Replay.{called, doing, frameMost, laterLine, readingOf, repliedWith, replyText, unread}
+
+-- ---- the frame
+
+-- a frame that is sent has the length of the lent one
+put-length : (b : Bool) (position v : ℕ) (frame : List ℕ) → length (cond b frame (set frame position v)) ≡ length frame
+put-length true position v frame = refl
+put-length false position v frame = length-set frame position v
+
+frame-length : (c : Config) (f : Fields) (frame : List ℕ) → length (frameOf c f frame) ≡ length frame
+unfolding frameOf
+frame-length c f frame =
+    simp (length-sets, put-length)
+
+after-length : (ch : Channel) (x : calls.Call) (frame : List ℕ) → length (frameAfter ch x frame) ≡ length frame
+unfolding frameAfter framed
+after-length ch x frame = by-sent (replied ch x .sent)
+  where
+    by-sent : (t : Bool)
+        → length (cond t (framed (ch .own .config) (trafficMoved (ch .own) x) (ch .own .requests) (ch .own .user) frame) frame) ≡ length frame
+    by-sent true = frame-length _ _ frame
+    by-sent false = refl
+
+-- ---- lines
+
+reply-le : (run : Run) (k : Command) (bytes : List ℕ) → length (called run k bytes .text) ≤ printedMost + 2 * frameMost
+unfolding called repliedWith replyText carriedOutBy
+reply-le run k bytes =
+    let x = callFor k bytes frameMost in
+    let r = replied (run .channel) x in
+    let f = frameAfter (run .channel) x (replicate frameMost 0) in
+    let b = sentBytes (r .sent) (r .channel .own .config .layout .length) f in
+    omega (arith, length-line (run .next) (digitOf (numberOf (r .answer))) (letterOf (r .channel .own .mode .state)) (r .notes) b, sent-le (r .sent) (r .channel .own .config .layout .length) f, after-length (run .channel) x (replicate frameMost 0))
+
+unread-le : (run : Run) → length (unread run .text) ≤ printedMost
+unfolding unread
+unread-le run = bare-le _ _ _
+
+pub later-le : (run : Run) (l : List ℕ) → length (laterLine run l .text) ≤ printedMost + 2 * frameMost
+unfolding laterLine
+later-le run l = by-asked (readingOf l .asked) (readingOf l .bytes)
+  where
+    by-asked : (a : Asked) (bytes : List ℕ) → length (doing run a bytes .text) ≤ printedMost + 2 * frameMost
+    by-asked Unreadable bytes = omega (arith, unread-le run)
+    by-asked (Call k) bytes = reply-le run k bytes

@@ -1,0 +1,31 @@
+-- Laws of runs and of printed lines. Assumes nothing.
+use mathlib.Core.Bool.{Bool}
+use mathlib.Core.List.{List, []}
+use Prim.Native.Nat.{ℕ, _≤_}
+use native.Mathlib.Omega.{arith}
+use lib.ListN.{length, length-take}
+use Rattle.answers.specs.declared.Answer.{Answer}
+use Rattle.answers.specs.declared.Answer.the-variants.{Done, Unsound, Rule, State, Passive, Length, PnOff}
+use Rattle.answers.specs.Answers.{numberOf}
+use Rattle.report.proofs.Line.{length-line}
+use Rattle.runs.specs.Runs.{bareText, printedMost, quiet, sentBytes}
+
+-- an answer's number has one digit
+pub number-le : (a : Answer) → numberOf a ≤ 6
+number-le Done = omega arith
+number-le Unsound = omega arith
+number-le (Rule k) = omega arith
+number-le State = omega arith
+number-le Passive = omega arith
+number-le Length = omega arith
+number-le PnOff = omega arith
+
+-- how much room a line without notes and frame takes
+pub bare-le : (n answer state : ℕ) → length (bareText n answer state) ≤ printedMost
+unfolding bareText
+bare-le n answer state = omega (arith, length-line n answer state quiet [])
+
+-- what is printed of a frame is no longer than it
+pub sent-le : (sent : Bool) (n : ℕ) (frame : List ℕ) → length (sentBytes sent n frame) ≤ length frame
+unfolding sentBytes
+sent-le sent n frame = rw length-take (omega arith)

@@ -1,0 +1,3 @@
+mod Cut
+mod Reached
+pub mod Theorem
