@@ -1,6 +1,6 @@
 -- Laws of lists changed place by place, and of tests and sums over the places of a range, for any length. Assumes nothing.
 use mathlib.Core.Path.{_≡_, refl, ap, sym, _∙_}
-use mathlib.Core.Bool.{Bool, true, false, _&&_, _||_, and-eq-true-iff, or-true, false≢true}
+use mathlib.Core.Bool.{Bool, true, false, _&&_, _||_, and-eq-true-iff, or-true, or-false, false≢true}
 use mathlib.Core.List.{List, [], _∷_}
 use mathlib.Core.Logic.{⊎-elim}
 use Prim.Native.Nat.{ℕ, zero, suc, _+_, _<_, _≤_, zero-le}
@@ -23,6 +23,11 @@ pub at-map-from : (f : ℕ → ℕ → ℕ) (b : ℕ) (xs : List ℕ) (k : ℕ) 
 at-map-from f b [] k h = absurd (not-suc-le-zero h)
 at-map-from f b (x ∷ xs) zero h = ap (λ (j : ℕ). f j x) (sym (add-zero b))
 at-map-from f b (x ∷ xs) (suc k) h = at-map-from f (suc b) xs k (le-of-suc-le-suc h) ∙ ap (λ (j : ℕ). f j (getD xs k 0)) (suc-add b k ∙ sym (add-suc b k))
+
+-- changes that agree at each place of the list make the same list
+pub map-from-ext : (f g : ℕ → ℕ → ℕ) (b : ℕ) (xs : List ℕ) → ((k x : ℕ) → k < b + length xs → f k x ≡ g k x) → mapFrom f b xs ≡ mapFrom g b xs
+map-from-ext f g b [] h = refl
+map-from-ext f g b (x ∷ xs) h = rw (h b x (omega arith), map-from-ext f g (suc b) xs (λ k y u. h k y (omega arith)))
 
 -- the same for a change from place 0 on
 pub at-map : (f : ℕ → ℕ → ℕ) (xs : List ℕ) (k : ℕ) → k < length xs → getD (mapFrom f 0 xs) k 0 ≡ f k (getD xs k 0)
@@ -142,6 +147,14 @@ any-done p h k w = rw (← le-antisymm h k) w
 pub any-ext : (p q : ℕ → Bool) (n : ℕ) → ((k : ℕ) → k < n → p k ≡ q k) → anyBelow p n ≡ anyBelow q n
 any-ext p q zero h = refl
 any-ext p q (suc n) h = rw (any-ext p q n (λ k l. h k (omega arith)), h n (omega arith))
+
+-- what holds at no place behind n holds below m exactly if it holds below n
+pub any-rest : (p : ℕ → Bool) (n m : ℕ) → n ≤ m → ((k : ℕ) → n ≤ k → k < m → p k ≡ false) → anyBelow p m ≡ anyBelow p n
+any-rest p n zero l h = let e : 0 ≡ n = omega arith in ap (anyBelow p) e
+any-rest p n (suc m) l h =
+    ⊎-elim (λ e. ap (anyBelow p) (sym e))
+    (λ u. rw (any-rest p n m (le-of-suc-le-suc u) (λ k a b. h k a (omega arith)), h m (le-of-suc-le-suc u) (omega arith)) (or-false (anyBelow p n)))
+    (eq-or-lt-of-le l)
 
 -- a test that holds at one place is answered by true
 pub any-at : (p : ℕ → Bool) (n k : ℕ) → k < n → p k ≡ true → anyBelow p n ≡ true

@@ -14,10 +14,10 @@ ghost use Rattle.frames.specs.Frames.{accepted, asksRepeat, cbvSent, fra
 
 // ---- tables and bytes at their lengths
 
-fn load<'a>(bytes: &'a [u8], mask: &'a [u8; 8], reset: u16, timers: &mut [u16; 56])
-    ensures { λ r. ⌜ now (timers .exit) ≡ loadedWhere (now (bytes .entry)) (now (mask .entry)) reset (now (timers .entry)) ⌝ }
+fn load<'a>(bytes: &'a [u8], mask: &'a [u8; 8], reset: u16, timers: &mut [u16; 56]) -> bool
+    ensures { λ r. ⌜ (now (timers .exit) ≡ loadedWhere (now (bytes .entry)) (now (mask .entry)) reset (now (timers .entry))) × (r ≡ vectorsDiffer (now (timers .entry)) (loadedWhere (now (bytes .entry)) (now (mask .entry)) reset (now (timers .entry)))) ⌝ }
 {
-    timers::load_where(bytes, mask, reset, timers);
+    timers::load_where(bytes, mask, reset, timers)
 }
 
 fn differ(a: &[u16; 56], b: &[u16; 56]) -> bool
@@ -70,12 +70,10 @@ pub fn asks_repeat(c: Config, pdu: &[u8]) -> bool
 pub fn load_heard(c: Config, reset: u16, pdu: &[u8], timers: &mut [u16; 56]) -> bool
     ensures { λ r. ⌜ (now (timers .exit) ≡ loadedBy c reset (now (pdu .entry)) (now (timers .entry))) × (r ≡ vectorsDiffer (now (timers .entry)) (loadedBy c reset (now (pdu .entry)) (now (timers .entry)))) ⌝ }
 {
-    let before = *timers;
     let mask = c.pn.mask;
     if filter::informs(layout::byte_at(pdu, c.layout.cbv) as u32) {
         let pn = bytes::part(pdu, c.pn.start as usize, c.pn.length as usize);
-        load(pn, &mask, reset, timers);
-        return differ(&before, timers);
+        return load(pn, &mask, reset, timers);
     }
     false
 }
@@ -117,7 +115,7 @@ pub fn load_sent(c: Config, reset: u16, requests: &[u8; 8], timers: &mut [u16; 5
 {
     let before = *timers;
     let mask = c.pn.mask;
-    let fell = count_down(timers);
+    count_down(timers);
     load(
         bytes::part(requests, 0, c.pn.length as usize),
         &mask,

@@ -3,14 +3,15 @@ use mathlib.Core.Path.{_≡_}
 use mathlib.Core.List.{List}
 use Prim.Native.Nat.{ℕ, _≤_}
 use lib.ListN.{length, take}
-use Rattle.timers.specs.Timers.{topsOf}
+use Rattle.timers.specs.Tops.{topsOf}
 use Rattle.timers.proofs.Timers.{under-tops}
 use Rattle.config.specs.declared.Config.{Config}
 use Rattle.config.specs.declared.Ticks.{Ticks}
 use Rattle.states.specs.declared.Mode.{Mode}
 use Rattle.states.specs.declared.Traffic.{Traffic}
 use Rattle.traffic.specs.Traffic.{setupOf}
-use Rattle.soundness.specs.Sound.{configured, scalarsSound, soundBy, soundOf}
+use Rattle.soundness.specs.Sound.{configured, scalarsSound, soundOf}
+use Rattle.soundness.specs.Kept.{soundBy}
 
 pub sound-alike : (c : Config) (t : Ticks) (m : Mode) (x : Traffic) (xs era eira : List ℕ) → length era ≤ length xs → length eira ≤ length xs
     → soundBy (configured c t) (setupOf c t) m x (topsOf (take (c .pn .length) (c .pn .mask)) (t .reset) xs) era eira

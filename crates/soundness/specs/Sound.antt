@@ -4,7 +4,7 @@ use mathlib.Core.Bool.{Bool, cond, not, _&&_, _||_}
 use mathlib.Core.List.{List}
 use lib.Dec.{leb, ltb, eqb}
 use lib.ListN.{take}
-use Rattle.timers.specs.Timers.{allUnder, allWithin}
+use Rattle.timers.specs.Timers.{allWithin}
 use Rattle.config.specs.declared.Config.{Config}
 use Rattle.config.specs.declared.Ticks.{Ticks}
 use Rattle.rules.specs.Rules.{firstBroken, ticksFor}
@@ -83,9 +83,3 @@ timersSound c t timers = allWithin (take (c .pn .length) (c .pn .mask)) (t .rese
 -- all conditions
 abbrev pub soundOf : Config → Ticks → Mode → Traffic → List ℕ → List ℕ → Bool
 soundOf c t m x era eira = scalarsSound c t m x && (timersSound c t era && timersSound c t eira)
-
--- the same with what the configuration comes to: whether it passes, the setup, and the most that each PN timer may hold
-unfoldable pub soundBy : Bool → Setup → Mode → Traffic → List ℕ → List ℕ → List ℕ → Bool
-soundBy passes s m x tops era eira =
-    (passes && modeSound (s .ticks) m && trafficSound s (m .state) x && passiveSound (s .passive) m x)
-    && (allUnder tops era && allUnder tops eira)

@@ -17,9 +17,10 @@ use traffic::setup_of;
 ghost use mathlib.Core.Path.{_≡_};
 ghost use mathlib.Core.Bool.{_&&_};
 ghost use lib.ListN.{length, take};
-ghost use Rattle.timers.specs.Timers.{allUnder, topsOf};
+ghost use Rattle.timers.specs.Tops.{allUnder, topsOf};
 ghost use Rattle.rules.specs.Rules.{ticksFor};
-ghost use Rattle.soundness.specs.Sound.{configured, larger, modeSound, only, passiveSound, requestFits, runs, sameTicks, soundBy, soundOf, trafficSound};
+ghost use Rattle.soundness.specs.Sound.{configured, larger, modeSound, only, passiveSound, requestFits, runs, sameTicks, soundOf, trafficSound};
+ghost use Rattle.soundness.specs.Kept.{byteWithin, filledMask, soundBy};
 
 // Are kept ticks what the times come to? By multiplying.
 fn same_ticks(c: Config, t: Ticks) -> bool
@@ -124,19 +125,44 @@ fn passive_sound(passive: bool, m: Mode, x: Traffic) -> bool
     only(passive, ok)
 }
 
+// Byte k of the first n bytes of a mask, 0 behind them.
+fn byte_within(n: u64, mask: &[u8; 8], k: u64) -> u8
+    ensures { λ r. ⌜ r ≡ byteWithin n (now (mask .entry)) k ⌝ }
+{
+    choice::pick8(k < n, bits::byte_at(mask, k as usize), 0)
+}
+
+// The first n bytes of a mask, and zeros behind them, so that no loop over the timers has to test where the mask ends.
+fn filled_mask(n: u64, mask: &[u8; 8]) -> [u8; 8]
+    ensures { λ r. ⌜ r ≡ filledMask n (now (mask .entry)) ⌝ }
+{
+    [
+        byte_within(n, mask, 0),
+        byte_within(n, mask, 1),
+        byte_within(n, mask, 2),
+        byte_within(n, mask, 3),
+        byte_within(n, mask, 4),
+        byte_within(n, mask, 5),
+        byte_within(n, mask, 6),
+        byte_within(n, mask, 7),
+    ]
+}
+
+// The same with the mask as it is, at the lengths of both tables.
+fn put_tops_by(mask: &[u8; 8], reset: u16, tops: &mut [u16; 56])
+    ensures { λ r. ⌜ now (tops .exit) ≡ topsOf (now (mask .entry)) reset (now (tops .entry)) ⌝ }
+    ensures { λ r. ⌜ length (now (tops .entry)) ≡ 56 ⌝ }
+{
+    timers::put_tops(mask, reset, tops);
+}
+
 // The most that each PN timer may hold.
 pub fn put_tops(c: Config, t: Ticks, tops: &mut [u16; 56])
     ensures { λ r. ⌜ now (tops .exit) ≡ topsOf (take (c .pn .length) (c .pn .mask)) (t .reset) (now (tops .entry)) ⌝ }
 {
     let mask = c.pn.mask;
-    put_tops_by(&mask, c.pn.length as usize, t.reset, tops);
-}
-
-// The same with the mask at its length.
-fn put_tops_by(mask: &[u8; 8], n: usize, reset: u16, tops: &mut [u16; 56])
-    ensures { λ r. ⌜ now (tops .exit) ≡ topsOf (take n (now (mask .entry))) reset (now (tops .entry)) ⌝ }
-{
-    timers::put_tops(mask, n, reset, tops);
+    let filled = filled_mask(c.pn.length, &mask);
+    put_tops_by(&filled, t.reset, tops);
 }
 
 // The PN timers of both tables, at their lengths.

@@ -1,5 +1,5 @@
 -- Laws of reset timers, for any number of them. Assumes nothing.
-use mathlib.Core.Path.{_≡_, refl}
+use mathlib.Core.Path.{_≡_, refl, sym, _∙_}
 use mathlib.Core.Bool.{Bool, true, false, cond, _&&_, xor}
 use mathlib.Core.List.{List, [], _∷_}
 use Prim.Native.Nat.{ℕ, zero, suc, _-_, _<_, _≤_, zero-le}
@@ -10,8 +10,9 @@ use lib.ListN.{length, getD, replicate, length-replicate, getD-replicate}
 use borrow.Author.Tests.{ne-eqb, le-leb, leb-true}
 use Rattle.bits.specs.Lists.{mapFrom, allBelow, anyBelow}
 use Rattle.bits.specs.Bits.{bitAt}
-use Rattle.timers.specs.Timers.{countedDown, loadedWhere, topAt, topsOf, allUnder, allWithin, vectorsDiffer}
-use Rattle.bits.proofs.Lists.{length-map-from, at-map, all-true, all-at, all-ext, all-both, any-ext}
+use Rattle.timers.specs.Timers.{countedDown, loadedWhere, topAt, allWithin, vectorsDiffer}
+use Rattle.timers.specs.Tops.{topsOf, allUnder}
+use Rattle.bits.proofs.Lists.{length-map-from, at-map, all-true, all-at, all-ext, all-both, any-ext, any-rest}
 
 -- ---- counted down
 
@@ -116,3 +117,13 @@ none-below p (suc n) h = rw (none-below p n h, h n)
 pub differs-not : (ts : List ℕ) → vectorsDiffer ts ts ≡ false
 unfolding vectorsDiffer
 differs-not ts = none-below (λ k. xor (eqb (getD ts k 0) 0) (eqb (getD ts k 0) 0)) (length ts) (λ k. xor-self (eqb (getD ts k 0) 0))
+
+-- loading changes the vector exactly if it changes the bit of one of the first n timers, where no later one is loaded
+pub loaded-where-differs : (bytes mask : List ℕ) (p : ℕ) (ts : List ℕ) (n : ℕ) → n ≤ length ts
+    → ((k : ℕ) → n ≤ k → k < length ts → (bitAt bytes k && bitAt mask k) ≡ false)
+    → anyBelow (λ k. xor (eqb (getD ts k 0) 0) (eqb (cond (bitAt bytes k && bitAt mask k) p (getD ts k 0)) 0)) n
+    ≡ vectorsDiffer ts (loadedWhere bytes mask p ts)
+unfolding vectorsDiffer
+loaded-where-differs bytes mask p ts n l h =
+    sym (any-rest _ n (length ts) l (λ k a b. rw (h k a b) (xor-self (eqb (getD ts k 0) 0))))
+    ∙ any-ext _ _ (length ts) (λ k b. rw (at-loaded-where bytes mask p ts k b))

@@ -23,13 +23,6 @@ topAt mask p k = cond (bitAt mask k) p 0
 unfoldable pub allWithin : List ℕ → ℕ → List ℕ → Bool
 allWithin mask p ts = allBelow (λ k. leb (getD ts k 0) (topAt mask p k)) (length ts)
 
--- the same in two steps: the tops of a table, and each timer at most what stands at its place there
-unfoldable pub topsOf : List ℕ → ℕ → List ℕ → List ℕ
-topsOf mask p ts = mapFrom (λ k t. topAt mask p k) 0 ts
-
-unfoldable pub allUnder : List ℕ → List ℕ → Bool
-allUnder tops ts = allBelow (λ k. leb (getD ts k 0) (getD tops k 0)) (length ts)
-
 -- the vectors of two tables differ in some bit
 unfoldable pub vectorsDiffer : List ℕ → List ℕ → Bool
 vectorsDiffer a b = anyBelow (λ k. xor (eqb (getD a k 0) 0) (eqb (getD b k 0) 0)) (length a)

@@ -5,8 +5,9 @@
 ghost use mathlib.Core.Path.{_≡_};
 ghost use mathlib.Core.Bool.{_&&_};
 ghost use Prim.Native.Nat.{_*_, _^_, _≤_, _<_, min};
-ghost use lib.ListN.{length, getD, take};
-ghost use Rattle.timers.specs.Timers.{allUnder, countedDown, digitOf, loadedWhere, topsOf, vectorByte, vectorsDiffer};
+ghost use lib.ListN.{length, getD};
+ghost use Rattle.timers.specs.Timers.{countedDown, digitOf, loadedWhere, vectorByte, vectorsDiffer};
+ghost use Rattle.timers.specs.Tops.{allUnder, topsOf};
 
 // Every running timer one down. Answers whether the vector changed by it.
 pub fn count_down(timers: &mut [u16]) -> bool
@@ -37,30 +38,35 @@ fn timers_of(bytes: usize, n: usize) -> usize
 }
 
 // Each timer whose bit stands in the bytes and in the mask is loaded with `reset`. Timers past the end of either have no
-// bit and are not looked at, so that the loop tests no bound.
-pub fn load_where(bytes: &[u8], mask: &[u8], reset: u16, timers: &mut [u16])
-    ensures { λ r. ⌜ now (timers .exit) ≡ loadedWhere (now (bytes .entry)) (now (mask .entry)) reset (now (timers .entry)) ⌝ }
+// bit and are not looked at, so that the loop tests no bound. Answers whether the vector changed by it.
+pub fn load_where(bytes: &[u8], mask: &[u8], reset: u16, timers: &mut [u16]) -> bool
+    ensures { λ r. ⌜ (now (timers .exit) ≡ loadedWhere (now (bytes .entry)) (now (mask .entry)) reset (now (timers .entry))) × (r ≡ vectorsDiffer (now (timers .entry)) (loadedWhere (now (bytes .entry)) (now (mask .entry)) reset (now (timers .entry)))) ⌝ }
 {
     let end = timers_of(lesser(bytes.len(), mask.len()), timers.len());
+    let mut changed = false;
     let mut i: usize = 0;
     while i < end {
         let marked = choice::both(
             bits::bit_of(bytes[i / 8], (i % 8) as u8),
             bits::bit_of(mask[i / 8], (i % 8) as u8),
         );
-        timers[i] = choice::pick16(marked, reset, timers[i]);
+        let t = timers[i];
+        let u = choice::pick16(marked, reset, t);
+        changed = choice::either(changed, choice::unlike(t == 0, u == 0));
+        timers[i] = u;
         i = i + 1;
     }
+    changed
 }
 
-// The most that each timer may hold: `reset` where its bit is in the first `n` bytes of the mask, else 0.
-pub fn put_tops(mask: &[u8], n: usize, reset: u16, tops: &mut [u16])
+// The most that each timer may hold: `reset` where its bit is in the mask, else 0.
+pub fn put_tops(mask: &[u8], reset: u16, tops: &mut [u16])
     requires { ⌜ length (now tops) ≤ 8 * length (now mask) ⌝ }
-    ensures { λ r. ⌜ now (tops .exit) ≡ topsOf (take n (now (mask .entry))) reset (now (tops .entry)) ⌝ }
+    ensures { λ r. ⌜ now (tops .exit) ≡ topsOf (now (mask .entry)) reset (now (tops .entry)) ⌝ }
 {
     let mut i: usize = 0;
     while i < tops.len() {
-        let marked = choice::both(i / 8 < n, bits::bit_of(mask[i / 8], (i % 8) as u8));
+        let marked = bits::bit_of(mask[i / 8], (i % 8) as u8);
         tops[i] = choice::pick16(marked, reset, 0);
         i = i + 1;
     }

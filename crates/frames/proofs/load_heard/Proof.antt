@@ -9,9 +9,9 @@ use Rattle.frames.proofs.load_heard.Tie as tie
 returns : tie.Need-returns
 unfolding loadedBy
 returns c =
-    let b = c .before .before .before .before .before .before .before in
+    let b = c .before .before .before .before in
     let e = sym (rw (b .before .before .byte-at .ensures) at (b .before .informs .ensures)) ∙ b .if1 .taken in
-    rw (c .differ .ensures, c .before .before .before .load .ensures, c .before .before .before .before .before .before .part .ensures, e)
+    rw (c .load .ensures .0, c .load .ensures .1, c .before .before .before .part .ensures, e)
     (refl, refl)
 
 returns-2 : tie.Need-returns-2
@@ -21,4 +21,4 @@ returns-2 c =
     rw e (refl, sym (differs-not _))
 
 pub load-heard-spec : {M : Type 1} → statement M
-load-heard-spec = tie.close (tie.spec (λ c κs. tt) (λ c. search needs) (λ c κs. tt) (λ c κs. tt) (λ c κs. tt) (λ c κs. tt) returns returns-2)
+load-heard-spec = tie.close (tie.spec (λ c κs. tt) (λ c. search needs) (λ c κs. tt) (λ c κs. tt) (λ c κs. tt) returns returns-2)

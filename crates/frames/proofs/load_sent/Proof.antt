@@ -6,7 +6,7 @@ use Rattle.frames.proofs.load_sent.Tie as tie
 
 returns : tie.Need-returns
 unfolding sentLoaded
-returns c = rw (c .differ .ensures, c .before .before .before .load .ensures, c .before .before .before .before .before .before .part .ensures, c .before .before .before .before .before .before .before .before .count-down .ensures .0) (refl, refl)
+returns c = rw (c .differ .ensures, c .before .before .before .load .ensures .0, c .before .before .before .before .before .before .part .ensures, c .before .before .before .before .before .before .before .before .count-down .ensures .0) (refl, refl)
 
 pub load-sent-spec : {M : Type 1} → statement M
 load-sent-spec = tie.close (tie.spec (λ c κs. tt) (λ c κs. tt) (λ c κs. tt) (λ c κs. tt) returns)
