@@ -8,6 +8,7 @@ use lib.ListN.{length, replicate, set, length-set}
 use lib.Seq.{length-sets}
 use Rattle.answers.specs.Answers.{numberOf}
 use Rattle.channel.specs.declared.state.Channel.{Channel}
+use Rattle.channel.specs.declared.state.Reply.{Reply}
 use Rattle.channel.specs.Channel.{frameAfter, replied, trafficMoved}
 use Rattle.commands.specs.declared.Command.{Command}
 use Rattle.commands.specs.declared.Asked.{Asked}
@@ -48,14 +49,16 @@ after-length ch x frame = by-sent (replied ch x .sent)
 
 -- ---- lines
 
+reply-text-le : (n : ℕ) (r : Reply) (frame : List ℕ) {k : ℕ} → length frame ≡ k → length (replyText n r frame) ≤ printedMost + 2 * k
+unfolding replyText
+reply-text-le n r frame e =
+    let b = sentBytes (r .sent) (r .channel .own .config .layout .length) frame in
+    omega (arith, length-line n (digitOf (numberOf (r .answer))) (letterOf (r .channel .own .mode .state)) (r .notes) b, sent-le (r .sent) (r .channel .own .config .layout .length) frame)
+
 reply-le : (run : Run) (k : Command) (bytes : List ℕ) → length (called run k bytes .text) ≤ printedMost + 2 * frameMost
-unfolding called repliedWith replyText carriedOutBy
+unfolding called repliedWith carriedOutBy
 reply-le run k bytes =
-    let x = callFor k bytes frameMost in
-    let r = replied (run .channel) x in
-    let f = frameAfter (run .channel) x (replicate frameMost 0) in
-    let b = sentBytes (r .sent) (r .channel .own .config .layout .length) f in
-    omega (arith, length-line (run .next) (digitOf (numberOf (r .answer))) (letterOf (r .channel .own .mode .state)) (r .notes) b, sent-le (r .sent) (r .channel .own .config .layout .length) f, after-length (run .channel) x (replicate frameMost 0))
+    reply-text-le _ _ _ (after-length (run .channel) (callFor k bytes frameMost) (replicate frameMost 0))
 
 unread-le : (run : Run) → length (unread run .text) ≤ printedMost
 unfolding unread

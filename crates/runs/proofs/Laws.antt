@@ -1,5 +1,5 @@
 -- Laws of runs and of printed lines. Assumes nothing.
-use mathlib.Core.Bool.{Bool}
+use mathlib.Core.Bool.{Bool, true, false, cond}
 use mathlib.Core.List.{List, []}
 use Prim.Native.Nat.{ℕ, _≤_}
 use native.Mathlib.Omega.{arith}
@@ -8,7 +8,7 @@ use Rattle.answers.specs.declared.Answer.{Answer}
 use Rattle.answers.specs.declared.Answer.the-variants.{Done, Unsound, Rule, State, Passive, Length, PnOff}
 use Rattle.answers.specs.Answers.{numberOf}
 use Rattle.report.proofs.Line.{length-line}
-use Rattle.runs.specs.Runs.{bareText, printedMost, quiet, sentBytes}
+use Rattle.runs.specs.Runs.{Outcome, bareText, printedMost, quiet, sentBytes}
 
 -- an answer's number has one digit
 pub number-le : (a : Answer) → numberOf a ≤ 6
@@ -24,6 +24,11 @@ number-le PnOff = omega arith
 pub bare-le : (n answer state : ℕ) → length (bareText n answer state) ≤ printedMost
 unfolding bareText
 bare-le n answer state = omega (arith, length-line n answer state quiet [])
+
+-- one of two outcomes has the room that both have
+pub either-le : {k : ℕ} (t : Bool) (o p : Outcome) → length (o .text) ≤ k → length (p .text) ≤ k → length (cond t o p .text) ≤ k
+either-le true o p h i = h
+either-le false o p h i = i
 
 -- what is printed of a frame is no longer than it
 pub sent-le : (sent : Bool) (n : ℕ) (frame : List ℕ) → length (sentBytes sent n frame) ≤ length frame

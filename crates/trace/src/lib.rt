@@ -60,6 +60,14 @@ fn lines(run: Run, text: &[u8], out: &mut [u8]) -> Step
     }
 }
 
+// ---- the text in a buffer
+
+// The run after a block, the place behind what it printed, and how many bytes are kept in front of the buffer.
+pub struct Ran {
+    pub step: Step,
+    pub kept: usize,
+}
+
 // The whole lines of a text, its unfinished line left out. There must be room for what each prints.
 fn whole_lines(run: Run, text: &[u8], out: &mut [u8]) -> Step
     requires { ⌜ room * length (now text) ≤ length (now out) ⌝ }
@@ -67,17 +75,6 @@ fn whole_lines(run: Run, text: &[u8], out: &mut [u8]) -> Step
 {
     let whole = text::whole_len(text);
     lines(run, &text[..whole], out)
-}
-
-// The text in the first n bytes of the buffer, whose lines are the last of the input, and the end of the input behind them.
-// There must be room for what each line prints, and for a line behind them.
-fn last_lines(run: Run, buf: &[u8], n: usize, out: &mut [u8]) -> usize
-    requires { ⌜ room * (length (now buf) + 1) ≤ length (now out) ⌝ }
-    ensures { λ r. ⌜ Wrote (now (out .entry)) 0 (printedFrom run (take n (now (buf .entry)))) (now (out .exit)) r ⌝ }
-    ensures { λ r. ⌜ r ≤ length (now (out .entry)) ⌝ }
-{
-    let s = lines(run, bytes::part(buf, 0, n), out);
-    trace_line::finish(s.run, out, s.at)
 }
 
 // The whole lines of the text in the first n bytes of the buffer are run and printed; what is kept of its unfinished line
@@ -96,13 +93,18 @@ fn block_of(run: Run, buf: &mut [u8], n: usize, out: &mut [u8]) -> Ran
     }
 }
 
-// ---- a trace in blocks
-
-// The run after a block, the place behind what it printed, and how many bytes are kept in front of the buffer.
-pub struct Ran {
-    pub step: Step,
-    pub kept: usize,
+// The text in the first n bytes of the buffer, whose lines are the last of the input, and the end of the input behind them.
+// There must be room for what each line prints, and for a line behind them.
+fn last_lines(run: Run, buf: &[u8], n: usize, out: &mut [u8]) -> usize
+    requires { ⌜ room * (length (now buf) + 1) ≤ length (now out) ⌝ }
+    ensures { λ r. ⌜ Wrote (now (out .entry)) 0 (printedFrom run (take n (now (buf .entry)))) (now (out .exit)) r ⌝ }
+    ensures { λ r. ⌜ r ≤ length (now (out .entry)) ⌝ }
+{
+    let s = lines(run, bytes::part(buf, 0, n), out);
+    trace_line::finish(s.run, out, s.at)
 }
+
+// ---- a trace in blocks
 
 // The run before the first line.
 pub fn start() -> Run
