@@ -1,8 +1,8 @@
 // One CanNm channel: its value, the fresh one, and what calls end in: a reply, or its effect on a channel in parts.
 // specs/Channel says what every call gives.
 //
-// Promises: each function is a definition of specs/. Leaves to others: the calls themselves (`calls`, `inputs`, `tick`),
-// in which tick Bus-Sleep is entered, over whole lists of calls (`sleep`), and the CAN driver.
+// Promises: each function is a definition of specs/. Leaves to others: the calls themselves (`calls`, `status`,
+// `reception`, `inputs`, `tick`), in which tick Bus-Sleep is entered, over whole lists of calls (`sleep`), and the CAN driver.
 use answers::Answer;
 use config::Config;
 use config::Layout;

@@ -1,8 +1,7 @@
-// The configuration of a channel: its fields, the table of their bounds, the eight rules, and the byte ranges of
-// the PDU that follow from it.
+// The configuration of a channel: its fields, the table of their bounds, and the byte ranges of the PDU that follow from it.
 //
-// Promises: the number of the first broken rule, or 0, for every configuration whatever its numbers. Leaves to
-// others: what the bytes mean (`pdu`) and what the times do (`channel`).
+// Promises: whether a value lies within its bounds, and where header and user data stand, for every configuration whatever
+// its numbers. Leaves to others: the eight rules (`rules`), what the bytes mean (`layout`) and what the times do (`channel`).
 ghost use mathlib.Core.Path.{_≡_};
 ghost use mathlib.Core.Bool.{false};
 ghost use Prim.Native.Nat.{_+_, _-_, _<_};

@@ -2,7 +2,7 @@
 //
 // Promises: for any bytes, whether the line can be read, and the configuration that its fields give, with PN off; that
 // the line's first 81 bytes say the same as the line (proofs/Cut). Leaves to others: PN (`pn_line`), and the rules of a
-// configuration (`config`).
+// configuration (`rules`).
 use config::Config;
 use config::Layout;
 use config::Partial;

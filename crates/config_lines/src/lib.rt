@@ -1,8 +1,8 @@
 // The lines of a trace that give the configuration: line 1, and line 2 where that is a PN line.
 //
 // Promises: the run after such a line and the text that it prints, by the definitions of specs/ConfigLines, unreadable
-// lines and refused configurations included. Leaves to others: reading the settings (`settings`), judging them
-// (`channel`), and whether line 2 is a PN line (`trace_line`).
+// lines and refused configurations included. Leaves to others: reading the lines (`config_line`, `pn_line`), judging
+// the configuration (`channel`), and whether line 2 is a PN line (`trace_line`).
 use channel::state::Channel;
 use config::Config;
 use runs::Phase;

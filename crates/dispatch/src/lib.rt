@@ -22,10 +22,10 @@ pub fn carry_out(ch: Channel, k: Command, bytes: &[u8], frame: &mut [u8]) -> Rep
         Command::DisableCommunication => calls::disable_communication(ch),
         Command::EnableCommunication => calls::enable_communication(ch),
         Command::TxConfirmation(good) => calls::tx_confirmation(ch, good),
-        Command::RxIndication(n) => reception::rx_indication(ch, bytes::part(bytes, 0, n)),
+        Command::RxIndication(n) => reception::rx_indication(ch, slices::part(bytes, 0, n)),
         Command::ConfirmPnAvailability => calls::confirm_pn_availability(ch),
-        Command::SetUserData(n) => inputs::set_user_data(ch, bytes::part(bytes, 0, n)),
-        Command::SetPnRequests(n) => inputs::set_pn_requests(ch, bytes::part(bytes, 0, n)),
+        Command::SetUserData(n) => inputs::set_user_data(ch, slices::part(bytes, 0, n)),
+        Command::SetPnRequests(n) => inputs::set_pn_requests(ch, slices::part(bytes, 0, n)),
         Command::MainFunction(taken) => tick::main_function(ch, taken, frame),
     }
 }

@@ -92,7 +92,7 @@ pub fn carry_out_in_place(
         );
     }
     if let Command::RxIndication(n) = k {
-        let pdu = bytes::part(bytes, 0, n);
+        let pdu = slices::part(bytes, 0, n);
         return reception::rx_indication_in_place(ok, c, t, m, x, pdu, era, eira);
     }
     carry_out_whole(c, t, m, x, user, requests, era, eira, k, bytes, frame)

@@ -1,7 +1,7 @@
 // What a channel takes from a PDU, and puts into one.
 //
 // Promises: each function is a definition of specs/; lent bytes are given whole. Leaves to others: where a field stands
-// (`layout`), which PN bytes keep a PDU (`filter`), and when a frame is sent (`traffic`).
+// (`layout`), which PN bytes keep a PDU (`filter`), and when a frame is sent (`sending`).
 use config::Config;
 use states::Traffic;
 ghost use mathlib.Core.Path.{_≡_};
@@ -35,7 +35,7 @@ pub fn count_down(timers: &mut [u16; 56]) -> bool
 pub fn store(bytes: &[u8], dst: &mut [u8; 8])
     ensures { λ r. ⌜ now (dst .exit) ≡ sets (now (dst .entry)) 0 (now (bytes .entry)) ⌝ }
 {
-    bytes::copy(bytes, dst);
+    slices::copy(bytes, dst);
 }
 
 fn keeps<'a>(awake: bool, cbv: u32, pn: &'a [u8], mask: &'a [u8; 8]) -> bool
@@ -51,7 +51,7 @@ pub fn accepted(c: Config, filter: bool, pdu: &[u8]) -> bool
     ensures { λ r. ⌜ r ≡ accepted c filter (now (pdu .entry)) ⌝ }
 {
     let mask = c.pn.mask;
-    let pn = bytes::part(pdu, c.pn.start as usize, c.pn.length as usize);
+    let pn = slices::part(pdu, c.pn.start as usize, c.pn.length as usize);
     let cbv = layout::byte_at(pdu, c.layout.cbv);
     choice::either(
         choice::negation(filter),
@@ -72,7 +72,7 @@ pub fn load_heard(c: Config, reset: u16, pdu: &[u8], timers: &mut [u16; 56]) -> 
 {
     let mask = c.pn.mask;
     if filter::informs(layout::byte_at(pdu, c.layout.cbv) as u32) {
-        let pn = bytes::part(pdu, c.pn.start as usize, c.pn.length as usize);
+        let pn = slices::part(pdu, c.pn.start as usize, c.pn.length as usize);
         return load(pn, &mask, reset, timers);
     }
     false
@@ -97,8 +97,8 @@ fn bit(set: bool, weight: u8) -> u8
 pub fn send<'a>(c: Config, x: Traffic, requests: &'a [u8; 8], user: &'a [u8; 8], frame: &mut [u8])
     ensures { λ r. ⌜ now (frame .exit) ≡ framed c x (now (requests .entry)) (now (user .entry)) (now (frame .entry)) ⌝ }
 {
-    let pn = bytes::part(requests, 0, c.pn.length as usize);
-    let data = bytes::part(user, 0, config::user_length(c) as usize);
+    let pn = slices::part(requests, 0, c.pn.length as usize);
+    let data = slices::part(user, 0, config::user_length(c) as usize);
     layout::write_fields(
         c,
         (c.node % 256) as u8,
@@ -117,7 +117,7 @@ pub fn load_sent(c: Config, reset: u16, requests: &[u8; 8], timers: &mut [u16; 5
     let mask = c.pn.mask;
     count_down(timers);
     load(
-        bytes::part(requests, 0, c.pn.length as usize),
+        slices::part(requests, 0, c.pn.length as usize),
         &mask,
         reset,
         timers,

@@ -34,7 +34,7 @@ pub fn hex_pairs(s: &[u8], out: &mut [u8]) -> usize
         if 15 < low {
             return n;
         }
-        bytes::put(out, n, high * 16 + low);
+        slices::put(out, n, high * 16 + low);
         n += 1;
         i += 2;
     }

@@ -18,7 +18,7 @@ fn put_byte(frame: &mut [u8], position: u64, b: u8)
     if position == config::OFF {
         return;
     }
-    bytes::put(frame, position as usize, b);
+    slices::put(frame, position as usize, b);
 }
 
 // A header field's byte; 0 where it is off.
@@ -39,8 +39,8 @@ pub fn write_fields(c: Config, sni: u8, cbv: u8, pn: &[u8], user: &[u8], frame: 
 {
     put_byte(frame, c.layout.sni, sni);
     put_byte(frame, c.layout.cbv, cbv);
-    bytes::put_part(frame, c.pn.start as usize, pn);
-    bytes::put_part(frame, config::user_start(c) as usize, user);
+    slices::put_part(frame, c.pn.start as usize, pn);
+    slices::put_part(frame, config::user_start(c) as usize, user);
 }
 
 // Are so many PN bytes and user bytes of the configured lengths?

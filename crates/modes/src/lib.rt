@@ -1,7 +1,7 @@
-// What decides the state: what each transition rule does to it, and to the NM, wait and repeat timers.
+// What decides the state: the parts of the transition rules that change it, and the NM, wait and repeat timers.
 //
-// Promises: each function is a definition of specs/. Leaves to others: which rule it is (`decision`), and all that never
-// decides the state (`traffic`).
+// Promises: each function is a definition of specs/. Leaves to others: which rule has which part (`transitions`), and all
+// that never decides the state (`traffic`).
 use config::Ticks;
 use states::Mode;
 use states::State;

@@ -8,7 +8,7 @@ use lib.Dec.{eqb}
 use lib.ListN.{length, take, drop, length-drop}
 use lib.Seq.{sets}
 use borrow.Author.Tests.{eqb-true}
-use Rattle.bytes.proofs.Bytes.{sets-over}
+use Rattle.slices.proofs.Bytes.{sets-over}
 use Rattle.choice.proofs.Tests.{and-left, and-right}
 use Rattle.config.specs.declared.Config.{Config}
 use Rattle.config.specs.Ranges.{userStartOf, userLengthOf}

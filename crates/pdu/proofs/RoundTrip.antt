@@ -10,7 +10,7 @@ use lib.Dec.{eqb, leb}
 use lib.ListN.{length, getD, set, take, drop, length-set, length-drop, length-append, List·getD-append}
 use lib.Seq.{sets, length-sets, getD-set-same, getD-set-other, getD-take, getD-drop, getD-append-add, ext-getD, length-take-le}
 use borrow.Author.Tests.{eqb-true, leb-true, leb-false, eq-eqb, le-leb}
-use Rattle.bytes.proofs.Bytes.{at-inside, at-outside, part-is}
+use Rattle.slices.proofs.Bytes.{at-inside, at-outside, part-is}
 use Rattle.choice.proofs.Tests.{and-left, and-right}
 use Rattle.answers.specs.declared.Answer.{Answer}
 use Rattle.answers.specs.declared.Answer.the-variants.{Done, Rule, Length}

@@ -50,8 +50,8 @@ pub fn read(c: Config, pdu: &[u8], pn: &mut [u8], user: &mut [u8]) -> Reading
             layout::of_lengths(c, pn.len(), user.len()),
             pdu.len() as u64 == c.layout.length,
         ) {
-            bytes::take_part(pdu, c.pn.start as usize, pn);
-            bytes::take_part(pdu, config::user_start(c) as usize, user);
+            slices::take_part(pdu, c.pn.start as usize, pn);
+            slices::take_part(pdu, config::user_start(c) as usize, user);
             return Reading {
                 answer: Answer::Done,
                 sni: layout::byte_at(pdu, c.layout.sni),

@@ -2,7 +2,7 @@
 //
 // Promises: for any bytes, whether the line is the PN line, whether it can be read, and the configuration with what its
 // fields give; that the line's first 81 bytes say the same as the line (proofs/Cut). Leaves to others: line 1
-// (`config_line`), and the rules of a configuration (`config`).
+// (`config_line`), and the rules of a configuration (`rules`).
 use config::Config;
 use config::Partial;
 use config::Times;
@@ -33,7 +33,7 @@ fn behind_tab<'a>(l: &'a [u8]) -> &'a [u8]
     ensures { λ r. ⌜ now r ≡ behindTab (now (l .entry)) ⌝ }
 {
     let end = fields::field_end(l, 0);
-    bytes::part(l, end + 1, l.len())
+    slices::part(l, end + 1, l.len())
 }
 
 // What stands behind the fifth tab.

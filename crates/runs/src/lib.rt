@@ -107,5 +107,5 @@ pub fn put_unreadable(out: &mut [u8], at: usize, n: u64, state: State) -> usize
 pub fn sent_bytes<'a>(sent: bool, length: u64, frame: &'a [u8]) -> &'a [u8]
     ensures { λ r. ⌜ now r ≡ sentBytes sent length (now (frame .entry)) ⌝ }
 {
-    bytes::part(frame, 0, choice::pick64(sent, length, 0) as usize)
+    slices::part(frame, 0, choice::pick64(sent, length, 0) as usize)
 }

@@ -2,7 +2,7 @@
 //
 // Promises: for any bytes and numbers, these tests; that a line's first 81 bytes say the same as the line, name and
 // length (proofs/Cut). Leaves to others: line 1 (`config_line`), the PN line behind it (`pn_line`), and which line of the
-// trace it is (`trace`).
+// trace it is (`trace_line`).
 use config::Config;
 ghost use mathlib.Core.Path.{_≡_};
 ghost use Rattle.settings.specs.Settings.{allNumbers, isFlag, isLine, isNumber, nameOf};
@@ -53,7 +53,7 @@ pub fn all_numbers(s: &[u64]) -> bool
 pub fn name_of(l: &[u8]) -> usize
     ensures { λ r. ⌜ r ≡ nameOf (now (l .entry)) ⌝ }
 {
-    names::call(bytes::part(l, 0, fields::field_end(l, 0)))
+    names::call(slices::part(l, 0, fields::field_end(l, 0)))
 }
 
 // Is this a line of that name, with as many fields as it must have, and not too long?

@@ -1,7 +1,8 @@
 // The main function: one tick.
 //
 // Promises: the channel, answer, notes and every byte of the lent frame by channel's definition `tickedBy`, over every
-// channel handed in, refusals included. Leaves to others: what each step does (`modes`, `traffic`, `notes`, `frames`).
+// channel handed in, refusals included. Leaves to others: what each step does (`transitions`, `sending`, `notes`,
+// `frames`).
 use answers::Answer;
 use channel::state::Channel;
 use channel::state::Effect;

@@ -1,4 +1,4 @@
-// Milliseconds to ticks of the main function, rounded up.
+// Milliseconds to ticks of the main function, rounded up, and a timer after one tick.
 //
 // Promises: the number of ticks for every period and time within their bounds, else which configuration rule
 // refuses the pair. Leaves to others: which time belongs to which parameter (`config`).

@@ -85,7 +85,7 @@ fn block_of(run: Run, buf: &mut [u8], n: usize, out: &mut [u8]) -> Ran
     ensures { λ r. ⌜ filled (r .kept) (now (buf .exit)) ≡ keeping n (now (buf .entry)) ⌝ }
     ensures { λ r. ⌜ r .step .at ≤ length (now (out .entry)) ⌝ }
 {
-    let s = whole_lines(run, bytes::part(buf, 0, n), out);
+    let s = whole_lines(run, slices::part(buf, 0, n), out);
     let kept = text::keep_unfinished(buf, n);
     Ran {
         step: s,
@@ -100,7 +100,7 @@ fn last_lines(run: Run, buf: &[u8], n: usize, out: &mut [u8]) -> usize
     ensures { λ r. ⌜ Wrote (now (out .entry)) 0 (printedFrom run (take n (now (buf .entry)))) (now (out .exit)) r ⌝ }
     ensures { λ r. ⌜ r ≤ length (now (out .entry)) ⌝ }
 {
-    let s = lines(run, bytes::part(buf, 0, n), out);
+    let s = lines(run, slices::part(buf, 0, n), out);
     trace_line::finish(s.run, out, s.at)
 }
 

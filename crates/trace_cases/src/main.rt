@@ -89,7 +89,7 @@ fn passes(text: &[u8; BUFFER], n: usize, stored: &[u8], out: &mut [u8; OUTPUT]) 
     ensures { λ r. ⌜ (r ≡ true → printed (take n (now (text .entry))) ≡ now (stored .entry)) × (printed (take n (now (text .entry))) ≡ now (stored .entry) → r ≡ true) ⌝ }
 {
     let end = trace::end(trace::start(), text, n, out);
-    check::same(bytes::part(out, 0, end), stored)
+    check::same(slices::part(out, 0, end), stored)
 }
 
 // Does the trace of a name print what is stored?
@@ -107,7 +107,7 @@ fn agrees(
     if !s.whole {
         return false;
     }
-    passes(text, t.n, bytes::part(stored, 0, s.n), out)
+    passes(text, t.n, slices::part(stored, 0, s.n), out)
 }
 
 // Says that a trace differs, or the list itself.
@@ -166,7 +166,7 @@ fn run(
         tell(list);
         return;
     }
-    let good = count(bytes::part(names, 0, g.n), text, stored, out);
+    let good = count(slices::part(names, 0, g.n), text, stored, out);
     io::print_decimal(STDOUT_FILENO, good);
     io::write_all(STDOUT_FILENO, b" traces print what is stored\n");
 }

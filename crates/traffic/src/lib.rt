@@ -1,7 +1,7 @@
-// Message and remote timers, fast count, indication and bits: what each transition rule does to them.
+// Message and remote timers, fast count, indication and bits: the parts of the transition rules that change them.
 //
-// Promises: each function is a definition of specs/. It sees the mode before and after a rule. Leaves to others: the mode
-// itself (`modes`), what is told (`notes`), the bytes of a frame (`frames`).
+// Promises: each function is a definition of specs/. It sees the mode before or after a rule. Leaves to others: which rule has
+// which part (`transitions`), the mode itself (`modes`), what is told (`notes`), step f (`sending`).
 
 use config::Config;
 use config::Ticks;

@@ -1,12 +1,12 @@
--- `bytes::part` meets its contract. Assumes nothing.
+-- `slices::part` meets its contract. Assumes nothing.
 use mathlib.Core.Path.{_≡_}
 use Prim.Native.Nat.{_+_, _-_}
 use native.Mathlib.Omega.{arith}
 use borrow.Author.Needs.{needs}
 use lib.ListN.{length, drop, length-drop, drop-of-length-le}
 use lib.Seq.{take-all, take-nil}
-use Rattle.bytes.proofs.part.Statement.{statement}
-use Rattle.bytes.proofs.part.Tie as tie
+use Rattle.slices.proofs.part.Statement.{statement}
+use Rattle.slices.proofs.part.Tie as tie
 
 returns : tie.Need-returns
 returns c =

@@ -1,12 +1,12 @@
--- `bytes::take_part` meets its contract. Assumes nothing.
+-- `slices::take_part` meets its contract. Assumes nothing.
 use mathlib.Core.Path.{_∙_}
 use Prim.Native.Nat.{_-_}
 use native.Mathlib.Omega.{arith}
 use lib.ListN.{length, drop, drop-of-length-le, length-drop}
 use lib.Seq.{take-all}
 use borrow.Author.Needs.{needs}
-use Rattle.bytes.proofs.take_part.Statement.{statement}
-use Rattle.bytes.proofs.take_part.Tie as tie
+use Rattle.slices.proofs.take_part.Statement.{statement}
+use Rattle.slices.proofs.take_part.Tie as tie
 
 returns : tie.Need-returns
 returns c =

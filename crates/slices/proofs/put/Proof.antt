@@ -1,9 +1,9 @@
--- `bytes::put` meets its contract. Assumes nothing.
+-- `slices::put` meets its contract. Assumes nothing.
 use mathlib.Core.Path.{sym}
 use borrow.Author.Needs.{needs}
 use lib.Seq.{set-out}
-use Rattle.bytes.proofs.put.Statement.{statement}
-use Rattle.bytes.proofs.put.Tie as tie
+use Rattle.slices.proofs.put.Statement.{statement}
+use Rattle.slices.proofs.put.Tie as tie
 
 returns-2 : tie.Need-returns-2
 returns-2 c = sym (set-out _ _ _ (c .if1 .left))

@@ -1,13 +1,13 @@
--- `bytes::copy` meets its contract. The loop's invariant: what is to be stored from the start on is what is left to be stored
+-- `slices::copy` meets its contract. The loop's invariant: what is to be stored from the start on is what is left to be stored
 -- from `i` on. Assumes nothing.
 use mathlib.Core.Path.{_≡_, refl, _∙_, sym}
 use Prim.Native.Nat.{_-_}
 use native.Mathlib.Omega.{arith}
 use lib.ListN.{length, drop, length-set}
 use lib.Seq.{sets}
-use Rattle.bytes.proofs.Bytes.{sets-one, sets-none}
-use Rattle.bytes.proofs.copy.Statement.{statement}
-use Rattle.bytes.proofs.copy.Tie as tie
+use Rattle.slices.proofs.Bytes.{sets-one, sets-none}
+use Rattle.slices.proofs.copy.Statement.{statement}
+use Rattle.slices.proofs.copy.Tie as tie
 
 abbrev Inv-loop : tie.InvT-loop
 Inv-loop src dst₀ i₀ dst i = (sets dst₀ 0 src ≡ sets dst i (drop i src)) × (length dst ≡ length dst₀)

@@ -1,10 +1,10 @@
--- `bytes::put_part` meets its contract. Assumes nothing.
+-- `slices::put_part` meets its contract. Assumes nothing.
 use mathlib.Core.Path.{sym}
 use native.Mathlib.Omega.{arith}
 use borrow.Author.Needs.{needs}
-use Rattle.bytes.proofs.Bytes.{sets-back, sets-out}
-use Rattle.bytes.proofs.put_part.Statement.{statement}
-use Rattle.bytes.proofs.put_part.Tie as tie
+use Rattle.slices.proofs.Bytes.{sets-back, sets-out}
+use Rattle.slices.proofs.put_part.Statement.{statement}
+use Rattle.slices.proofs.put_part.Tie as tie
 
 returns : tie.Need-returns
 returns c =
