@@ -1,6 +1,6 @@
 -- Laws of bits in bytes and in byte strings, for any length. Assumes nothing.
 use mathlib.Core.Path.{_≡_, refl, ap, sym, _∙_}
-use mathlib.Core.Bool.{Bool, true, false, _&&_, and-false, not, true≢false, false≢true}
+use mathlib.Core.Bool.{Bool, true, false, cond, _&&_, and-false, not, true≢false, false≢true}
 use mathlib.Core.List.{List, [], _∷_}
 use mathlib.Core.Logic.{_⊎_, inl, inr, ⊎-elim}
 use Prim.Native.Nat.{ℕ, zero, suc, _+_, _*_, _/_, _%_, _^_, _<_, _≤_, min, suc-le-suc}
@@ -38,14 +38,22 @@ bit-past m k h = rw (List·getD-eq-default {A = ℕ} m 0 h, zero-div)
 pub both-past : (m n : List ℕ) (k : ℕ) → min (length m) (length n) ≤ k / 8 → (bitAt m k && bitAt n k) ≡ false
 both-past m n k h = ⊎-elim (λ l. rw (bit-past m k l)) (λ l. rw (bit-past n k l) (and-false (bitAt m k))) (min-cases (length m) (length n) (k / 8) h)
 
--- bit-take, by the answer of its test
-take-by : (n : ℕ) (m : List ℕ) (k : ℕ) (b : Bool) → ltb (k / 8) n ≡ b → bitAt (take n m) k ≡ b && bitAt m k
-take-by n m k true e = rw (getD-take n m (k / 8) 0 (ltb-true (k / 8) n e))
-take-by n m k false e = bit-past (take n m) k (rw length-take (omega (arith, ltb-false (k / 8) n e)))
+-- byte-take, by the answer of its test
+take-by : (n : ℕ) (m : List ℕ) (j : ℕ) (b : Bool) → ltb j n ≡ b → getD (take n m) j 0 ≡ cond b (getD m j 0) 0
+take-by n m j true e = getD-take n m j 0 (ltb-true j n e)
+take-by n m j false e = List·getD-eq-default {A = ℕ} (take n m) 0 (rw length-take (omega (arith, ltb-false j n e)))
+
+-- the first n bytes, and 0 behind them
+pub byte-take : (n : ℕ) (m : List ℕ) (j : ℕ) → getD (take n m) j 0 ≡ cond (ltb j n) (getD m j 0) 0
+byte-take n m j = take-by n m j (ltb j n) refl
+
+bit-or-none : (b : Bool) (x j : ℕ) → bitOf (cond b x 0) j ≡ b && bitOf x j
+bit-or-none true x j = refl
+bit-or-none false x j = rw zero-div
 
 -- the bits of the first n bytes
 pub bit-take : (n : ℕ) (m : List ℕ) (k : ℕ) → bitAt (take n m) k ≡ ltb (k / 8) n && bitAt m k
-bit-take n m k = take-by n m k (ltb (k / 8) n) refl
+bit-take n m k = rw (byte-take n m (k / 8)) (bit-or-none (ltb (k / 8) n) (getD m (k / 8) 0) (k % 8))
 
 -- the lowest one stands in the first byte that is not 0
 pub lowest-found : (bytes : List ℕ) (i : ℕ) → i < length bytes → ((k : ℕ) → k < i → getD bytes k 0 ≡ 0) → (getD bytes i 0 ≡ 0 → ⊥)

@@ -29,7 +29,7 @@ use Rattle.channel.specs.declared.state.Status.{Status}
 use Rattle.states.specs.State.{stateNumber}
 use Rattle.decision.specs.declared.Rule
 use Rattle.decision.specs.declared.Rule.the-variants.{Keep}
-use Rattle.decision.specs.Decision.{Call, networkRequest, networkRelease, passiveStartUp, repeatMessageRequest, disableCommunication, enableCommunication, txConfirmation, rxIndication, confirmPnAvailability, setUserData, setPnRequests, status, mainFunction, ruleOf}
+use Rattle.decision.specs.Decision.{Call, networkRequest, networkRelease, passiveStartUp, repeatMessageRequest, disableCommunication, enableCommunication, txConfirmation, rxIndication, confirmPnAvailability, setUserData, setPnRequests, status, mainFunction, callNumber, ruleOf}
 use Rattle.modes.specs.Mode.{mode}
 use Rattle.transitions.specs.Transitions.{modeBy, trafficBy}
 use Rattle.traffic.specs.Traffic.{traffic, setupOf}
@@ -112,21 +112,25 @@ initialised c =
 
 -- ---- a call that is carried out
 
--- the transition rule: a bad confirmation and a dropped PDU change nothing
+-- a call that takes effect: a bad confirmation and a dropped PDU change nothing
+abbrev pub isHeeded : Config → Mode → Call → Bool
+isHeeded c m networkRequest = true
+isHeeded c m networkRelease = true
+isHeeded c m passiveStartUp = true
+isHeeded c m repeatMessageRequest = true
+isHeeded c m disableCommunication = true
+isHeeded c m enableCommunication = true
+isHeeded c m (txConfirmation good) = good
+isHeeded c m (rxIndication pdu) = accepted c (m .filter) pdu
+isHeeded c m confirmPnAvailability = true
+isHeeded c m (setUserData bytes) = true
+isHeeded c m (setPnRequests bytes) = true
+isHeeded c m status = true
+isHeeded c m (mainFunction taken room) = true
+
+-- the transition rule
 unfoldable pub ruleFor : Config → Mode → Call → Rule.Rule
-ruleFor c m networkRequest = ruleOf (m .state) 0
-ruleFor c m networkRelease = ruleOf (m .state) 1
-ruleFor c m passiveStartUp = ruleOf (m .state) 2
-ruleFor c m repeatMessageRequest = ruleOf (m .state) 3
-ruleFor c m disableCommunication = ruleOf (m .state) 4
-ruleFor c m enableCommunication = ruleOf (m .state) 5
-ruleFor c m (txConfirmation good) = cond good (ruleOf (m .state) 6) Keep
-ruleFor c m (rxIndication pdu) = cond (accepted c (m .filter) pdu) (ruleOf (m .state) 7) Keep
-ruleFor c m confirmPnAvailability = ruleOf (m .state) 8
-ruleFor c m (setUserData bytes) = ruleOf (m .state) 9
-ruleFor c m (setPnRequests bytes) = ruleOf (m .state) 10
-ruleFor c m status = ruleOf (m .state) 11
-ruleFor c m (mainFunction taken room) = ruleOf (m .state) 12
+ruleFor c m x = cond (isHeeded c m x) (ruleOf (m .state) (callNumber x)) Keep
 
 -- a PDU that asks for Repeat
 unfoldable pub againFor : Config → Call → Bool

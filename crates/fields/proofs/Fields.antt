@@ -7,7 +7,8 @@ use native.Mathlib.Omega.{arith}
 use lib.Dec.{eqb, leb, leb·suc-suc}
 use lib.ListN.{length, take, drop, length-drop}
 use lib.Seq.{drop-drop}
-use borrow.Author.Tests.{le-leb, lt-leb, leb-true, leb-false}
+use borrow.Author.Tests.{le-leb, lt-leb}
+use Rattle.choice.proofs.Tests.{same-leb}
 use Rattle.text.specs.Lines.{before, until}
 use Rattle.fields.specs.Fields.{fieldsOf, fieldsFrom, tab}
 
@@ -23,14 +24,6 @@ fields-step : (s : List ℕ) → fieldsOf s ≡ take (until tab s) s ∷ fieldsF
 unfolding fieldsOf fieldsFrom until
 fields-step [] = refl
 fields-step (x ∷ xs) = fields-by x xs (eqb x tab) (fields-step xs)
-
--- two tests of the same fact
-same-leb : (a b c d : ℕ) → (a ≤ b → c ≤ d) → (b < a → d < c) → leb a b ≡ leb c d
-same-leb a b c d f g = go (leb a b) refl
-  where
-    go : (t : Bool) → leb a b ≡ t → leb a b ≡ leb c d
-    go true e = e ∙ sym (le-leb c d (f (leb-true a b e)))
-    go false e = e ∙ sym (lt-leb c d (g (leb-false a b e)))
 
 -- the fields from the start on are all
 pub fields-start : (s : List ℕ) → fieldsOf s ≡ fieldsFrom s 0

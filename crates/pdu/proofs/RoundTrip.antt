@@ -21,6 +21,7 @@ use Rattle.rules.proofs.Passes.{passes}
 use Rattle.rules.proofs.Layouts.{Header, none, sni-alone, cbv-alone, sni-first, cbv-first, headed, Filled, filled-by, Stands, covers}
 use Rattle.layout.specs.Fields.{Fields, fields}
 use Rattle.layout.specs.Layout.{byteAt, fieldsOf, frameOf, ofLengths, putByte}
+use Rattle.layout.proofs.Lengths.{laid-length, put-length}
 use Rattle.pdu.specs.Pdu.{composed, composing, reading, taken}
 use Rattle.pdu.specs.RoundTrip.{RoundTrip, compared}
 
@@ -42,18 +43,11 @@ topped g x frame = putByte (g .cbv) (x .cbv) (putByte (g .sni) (x .sni) frame)
 abbrev laidOut : Shape → Fields → List ℕ → List ℕ
 laidOut g x frame = sets (sets (topped g x frame) (g .start) (x .pn)) (g .ustart) (x .user)
 
-put-length : (position value : ℕ) (l : List ℕ) → length (putByte position value l) ≡ length l
-put-length position value l = go (eqb position off)
-  where
-    go : (t : Bool) → length (cond t l (set l position value)) ≡ length l
-    go true = refl
-    go false = length-set l position value
-
 top-length : (g : Shape) (x : Fields) (frame : List ℕ) → length (topped g x frame) ≡ length frame
 top-length g x frame = put-length (g .cbv) (x .cbv) (putByte (g .sni) (x .sni) frame) ∙ put-length (g .sni) (x .sni) frame
 
-laid-length : (g : Shape) (x : Fields) (frame : List ℕ) → length (laidOut g x frame) ≡ length frame
-laid-length g x frame = length-sets _ (g .ustart) (x .user) ∙ length-sets _ (g .start) (x .pn) ∙ top-length g x frame
+shape-length : (g : Shape) (x : Fields) (frame : List ℕ) → length (laidOut g x frame) ≡ length frame
+shape-length g x frame = laid-length (g .cbv) (x .cbv) (g .sni) (x .sni) (g .start) (g .ustart) (x .pn) (x .user) frame
 
 -- bytes of which there are none, or that all stand elsewhere
 away : (vs l : List ℕ) (i k : ℕ) → (length vs ≡ 0) ⊎ ((k < i) ⊎ (i + length vs ≤ k)) → getD (sets l i vs) k 0 ≡ getD l k 0
@@ -151,16 +145,16 @@ module _ (g : Shape) (w : Fits g) (x : Fields) (frame : List ℕ) (pns : length 
 
   pn-back : take (g .pn) (drop (g .start) (take (g .length) (laidOut g x frame))) ≡ x .pn
   pn-back =
-      part-is (laidOut g x frame) (x .pn) (g .length) (g .start) (g .pn) pns (w .fill .pn-ends) (omega (arith, laid-length g x frame)) in-pn
+      part-is (laidOut g x frame) (x .pn) (g .length) (g .start) (g .pn) pns (w .fill .pn-ends) (omega (arith, shape-length g x frame)) in-pn
 
   user-back : take (g .user) (drop (g .ustart) (take (g .length) (laidOut g x frame))) ≡ x .user
   user-back =
-      part-is (laidOut g x frame) (x .user) (g .length) (g .ustart) (g .user) users (w .fill .user-ends) (omega (arith, laid-length g x frame)) in-user
+      part-is (laidOut g x frame) (x .user) (g .length) (g .ustart) (g .user) users (w .fill .user-ends) (omega (arith, shape-length g x frame)) in-user
 
   later-kept : drop (g .length) (laidOut g x frame) ≡ drop (g .length) frame
   later-kept =
       ext-getD 0 (drop (g .length) (laidOut g x frame)) (drop (g .length) frame)
-      (omega (arith, length-drop (g .length) (laidOut g x frame), length-drop (g .length) frame, laid-length g x frame))
+      (omega (arith, length-drop (g .length) (laidOut g x frame), length-drop (g .length) frame, shape-length g x frame))
       (λ i b. getD-drop (g .length) (laidOut g x frame) i 0 ∙ behind (g .length + i) (omega arith) ∙ sym (getD-drop (g .length) frame i 0))
 
 -- a place behind the PDU
@@ -203,7 +197,7 @@ module _ (g : Shape) (w : Fits g) (pdu frame : List ℕ) (size : length pdu ≡ 
   whole-back : laidOut g x frame ≡ pdu ++ drop (g .length) frame
   whole-back =
       ext-getD 0 (laidOut g x frame) (pdu ++ drop (g .length) frame)
-      (omega (arith, laid-length g x frame, length-append pdu (drop (g .length) frame), length-drop (g .length) frame))
+      (omega (arith, shape-length g x frame, length-append pdu (drop (g .length) frame), length-drop (g .length) frame))
       (λ i b. go i (leb (g .length) i) refl)
     where
       go : (i : ℕ) (t : Bool) → leb (g .length) i ≡ t → getD (laidOut g x frame) i 0 ≡ getD (pdu ++ drop (g .length) frame) i 0
@@ -338,7 +332,7 @@ reads-back c f frame pn user m a b =
     rw (
       m .is,
       reads c (take (c .layout .length) (frameOf c f frame)) pn user (m .whole) a b
-          (length-take-le (c .layout .length) (frameOf c f frame) (omega (arith, laid-length (shape c) f frame, m .room))),
+          (length-take-le (c .layout .length) (frameOf c f frame) (omega (arith, shape-length (shape c) f frame, m .room))),
       t .0,
       t .1,
       pn-back (shape c) w f frame (m .pns) (m .users) (m .room),
@@ -365,7 +359,7 @@ round-trip c =
           ⊎-elim (λ m. reads-back c f frame pn user m a b) (λ q. absurd (q .1 d)) (made-or-left c f frame);
       composes-back = λ pdu pn user frame d r. composes-back c pdu pn user frame (seen c pdu pn user d) r;
       keeps-length = λ f frame.
-          ⊎-elim (λ m. rw (m .is) (laid-length (shape c) f frame)) (λ q. ap length (q .0)) (made-or-left c f frame);
+          ⊎-elim (λ m. rw (m .is) (shape-length (shape c) f frame)) (λ q. ap length (q .0)) (made-or-left c f frame);
       keeps-later = λ f frame.
           ⊎-elim (λ m. rw (m .is) (later-kept (shape c) (fits c (m .whole)) f frame (m .pns) (m .users) (m .room)))
           (λ q. ap (drop (c .layout .length)) (q .0))

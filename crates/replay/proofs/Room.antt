@@ -4,8 +4,7 @@ use mathlib.Core.Bool.{Bool, true, false, cond}
 use mathlib.Core.List.{List}
 use Prim.Native.Nat.{ℕ, _+_, _*_, _≤_}
 use native.Mathlib.Omega.{arith}
-use lib.ListN.{length, replicate, set, length-set}
-use lib.Seq.{length-sets}
+use lib.ListN.{length, replicate}
 use Rattle.answers.specs.Answers.{numberOf}
 use Rattle.channel.specs.declared.state.Channel.{Channel}
 use Rattle.channel.specs.declared.state.Reply.{Reply}
@@ -14,10 +13,12 @@ use Rattle.commands.specs.declared.Command.{Command}
 use Rattle.commands.specs.declared.Asked.{Asked}
 use Rattle.commands.specs.declared.Asked.the-variants.{Unreadable, Call}
 use Rattle.config.specs.declared.Config.{Config}
+use Rattle.config.specs.Ranges.{userStartOf}
 use Rattle.decision.specs.Decision as calls
 use Rattle.frames.specs.Frames.{framed}
 use Rattle.layout.specs.Fields.{Fields}
 use Rattle.layout.specs.Layout.{frameOf}
+use Rattle.layout.proofs.Lengths.{laid-length}
 use Rattle.report.specs.Report.{letterOf}
 use Rattle.report.proofs.Line.{length-line}
 use Rattle.dispatch.specs.Calls.{callFor, carriedOutBy}
@@ -29,14 +30,10 @@ use Rattle.replay.specs.Replay.{called, doing, frameMost, laterLine, rea
 -- ---- the frame
 
 -- a frame that is sent has the length of the lent one
-put-length : (b : Bool) (position v : ℕ) (frame : List ℕ) → length (cond b frame (set frame position v)) ≡ length frame
-put-length true position v frame = refl
-put-length false position v frame = length-set frame position v
-
 frame-length : (c : Config) (f : Fields) (frame : List ℕ) → length (frameOf c f frame) ≡ length frame
 unfolding frameOf
 frame-length c f frame =
-    simp (length-sets, put-length)
+    laid-length (c .layout .cbv) (f .cbv) (c .layout .sni) (f .sni) (c .pn .start) (userStartOf c) (f .pn) (f .user) frame
 
 after-length : (ch : Channel) (x : calls.Call) (frame : List ℕ) → length (frameAfter ch x frame) ≡ length frame
 unfolding frameAfter framed

@@ -1,26 +1,19 @@
 -- The tops by a mask with zeros behind its first n bytes are those by these n bytes. Assumes nothing.
-use mathlib.Core.Path.{_≡_, refl, ap, sym}
-use mathlib.Core.Bool.{Bool, true, false, cond}
+use mathlib.Core.Path.{_≡_, ap, sym}
+use mathlib.Core.Bool.{cond}
 use mathlib.Core.List.{List}
 use Prim.Native.Nat.{ℕ, zero, suc, _/_, _%_, _<_, _≤_}
 use native.Mathlib.Omega.{arith}
-use lib.Dec.{ltb}
-use lib.ListN.{length, getD, take, length-take, List·getD-eq-default}
-use lib.Seq.{getD-take}
-use borrow.Author.Tests.{ltb-true, ltb-false}
+use lib.ListN.{length, getD, take}
 use Rattle.bits.specs.Bits.{bitOf}
+use Rattle.bits.proofs.Bits.{byte-take}
 use Rattle.bits.proofs.Lists.{map-from-ext}
 use Rattle.timers.specs.Tops.{topsOf}
 use Rattle.soundness.specs.Kept.{byteWithin, filledMask}
 
--- within-take, by the answer of its test
-take-by : (n : ℕ) (m : List ℕ) (j : ℕ) (b : Bool) → ltb j n ≡ b → cond b (getD m j 0) 0 ≡ getD (take n m) j 0
-take-by n m j true e = sym (getD-take n m j 0 (ltb-true j n e))
-take-by n m j false e = sym (List·getD-eq-default (take n m) 0 (rw length-take (omega (arith, ltb-false j n e))))
-
 -- a byte of the first n
 within-take : (n : ℕ) (m : List ℕ) (j : ℕ) → byteWithin n m j ≡ getD (take n m) j 0
-within-take n m j = take-by n m j (ltb j n) refl
+within-take n m j = sym (byte-take n m j)
 
 -- each of the eight bytes
 filled-at : (n : ℕ) (m : List ℕ) (j : ℕ) → j < 8 → getD (filledMask n m) j 0 ≡ getD (take n m) j 0
