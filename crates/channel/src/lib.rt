@@ -24,7 +24,7 @@ ghost use mathlib.Core.Path.{_≡_};
 ghost use mathlib.Core.Bool.{false, true};
 ghost use Rattle.channel.specs.Channel.{fresh, freshMode, freshTraffic, initialised, refused, zero, zeroConfig, zeroTicks};
 ghost use Rattle.channel.specs.Moved.{movedBy, movedTo};
-ghost use Rattle.channel.specs.Parts.{channelOf, effectOf, replyOn, unmoved};
+ghost use Rattle.channel.specs.Parts.{channelOf, effectOf, replyOf, unmoved};
 
 pub mod state;
 
@@ -145,20 +145,24 @@ pub fn moved_to(
     }
 }
 
-// The reply of an effect on a channel whose tables and bytes are changed already.
-pub fn reply_on(mut ch: Channel, e: Effect) -> Reply
-    ensures { λ r. ⌜ r ≡ replyOn ch e ⌝ }
+// The reply of an effect, with the parts that stay and those that were changed in place.
+pub fn reply_of(
+    c: Config,
+    t: Ticks,
+    e: Effect,
+    user: [u8; 8],
+    requests: [u8; 8],
+    era: [u16; 56],
+    eira: [u16; 56],
+) -> Reply
+    ensures { λ r. ⌜ r ≡ replyOf c t e user requests era eira ⌝ }
 {
     let mode = e.mode;
     let traffic = e.traffic;
     let answer = e.answer;
     let notes = e.notes;
-    let mut own = ch.own;
-    own.mode = mode;
-    own.traffic = traffic;
-    ch.own = own;
     Reply {
-        channel: ch,
+        channel: channel_of(c, t, mode, traffic, user, requests, era, eira),
         answer: answer,
         notes: notes,
         sent: e.sent,
@@ -169,17 +173,14 @@ pub fn reply_on(mut ch: Channel, e: Effect) -> Reply
 pub fn moved(ch: Channel, rule: Rule, again: bool, ei: bool, er: bool) -> Reply
     ensures { λ r. ⌜ r ≡ movedBy ch rule again ei er ⌝ }
 {
-    let e = moved_to(
-        ch.own.config,
-        ch.own.ticks,
-        ch.own.mode,
-        ch.own.traffic,
-        rule,
-        again,
-        ei,
-        er,
-    );
-    reply_on(ch, e)
+    let c = ch.own.config;
+    let t = ch.own.ticks;
+    let user = ch.own.user;
+    let requests = ch.own.requests;
+    let era = ch.own.era;
+    let eira = ch.eira;
+    let e = moved_to(c, t, ch.own.mode, ch.own.traffic, rule, again, ei, er);
+    reply_of(c, t, e, user, requests, era, eira)
 }
 
 // ---- initialising

@@ -50,16 +50,18 @@ pub fn rx_indication_in_place(
 }
 
 // A PDU was received.
-pub fn rx_indication(mut ch: Channel, pdu: &[u8]) -> Reply
+pub fn rx_indication(ch: Channel, pdu: &[u8]) -> Reply
     ensures { λ r. ⌜ r ≡ replied ch (rxIndication (now (pdu .entry))) ⌝ }
 {
     let c = ch.own.config;
     let t = ch.own.ticks;
     let m = ch.own.mode;
     let x = ch.own.traffic;
-    let ok = soundness::sound(c, t, m, x, &ch.own.era, &ch.eira);
+    let user = ch.own.user;
+    let requests = ch.own.requests;
+    let mut era = ch.own.era;
     let mut eira = ch.eira;
-    let e = rx_indication_in_place(ok, c, t, m, x, pdu, &mut ch.own.era, &mut eira);
-    ch.eira = eira;
-    channel::reply_on(ch, e)
+    let ok = soundness::sound(c, t, m, x, &era, &eira);
+    let e = rx_indication_in_place(ok, c, t, m, x, pdu, &mut era, &mut eira);
+    channel::reply_of(c, t, e, user, requests, era, eira)
 }

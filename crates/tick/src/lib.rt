@@ -83,17 +83,18 @@ pub fn main_function_in_place<'a>(
 }
 
 // The main function, a tick: `taken` says whether the driver takes a frame, which goes into the first bytes of the lent one.
-pub fn main_function(mut ch: Channel, taken: bool, frame: &mut [u8]) -> Reply
+pub fn main_function(ch: Channel, taken: bool, frame: &mut [u8]) -> Reply
     ensures { λ r. ⌜ ticked r (now (frame .exit)) ≡ tickedBy ch taken (now (frame .entry)) ⌝ }
 {
     let c = ch.own.config;
     let t = ch.own.ticks;
     let m = ch.own.mode;
     let x = ch.own.traffic;
-    let ok = soundness::sound(c, t, m, x, &ch.own.era, &ch.eira);
     let user = ch.own.user;
     let requests = ch.own.requests;
+    let mut era = ch.own.era;
     let mut eira = ch.eira;
+    let ok = soundness::sound(c, t, m, x, &era, &eira);
     let e = main_function_in_place(
         ok,
         c,
@@ -102,11 +103,10 @@ pub fn main_function(mut ch: Channel, taken: bool, frame: &mut [u8]) -> Reply
         x,
         &user,
         &requests,
-        &mut ch.own.era,
+        &mut era,
         &mut eira,
         taken,
         frame,
     );
-    ch.eira = eira;
-    channel::reply_on(ch, e)
+    channel::reply_of(c, t, e, user, requests, era, eira)
 }

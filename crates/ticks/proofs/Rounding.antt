@@ -1,8 +1,8 @@
--- Rounding up, by multiplying: k ticks are right for a time exactly if they last as long and one fewer does not. Assumes nothing.
+-- Rounding up, by multiplying: k ticks are right for a time exactly if they last as long, by less than a tick. Assumes nothing.
 use mathlib.Core.Path.{_≡_, refl, sym}
 use mathlib.Core.Bool.{Bool, true, false, _&&_}
-use Prim.Native.Nat.{ℕ, zero, suc, _+_, _-_, _*_, _/_, _≤_, _<_}
-use native.Mathlib.Nat.{div-mul-le-self, lt-div-mul-add, suc-mul}
+use Prim.Native.Nat.{ℕ, _+_, _-_, _*_, _/_, _≤_, _<_}
+use native.Mathlib.Nat.{div-mul-le-self, lt-div-mul-add}
 use native.Mathlib.Omega.{arith}
 use lib.Arith.{digits-div}
 use lib.Dec.{leb, ltb, eqb}
@@ -10,13 +10,12 @@ use borrow.Author.Tests.{leb-true, leb-false, ltb-true, ltb-false, eqb-true, eqb
 use Rattle.ticks.specs.declared.Conversion.{Conversion}
 use Rattle.ticks.specs.Ticks.{conversionOf, periodLeast, periodMost, ticksOf, timeMost}
 
--- the quotient is k where the time lies behind k - 1 ticks and not behind k
-between : (p j ms : ℕ) → 1 ≤ p → ms ≤ suc j * p → j * p < ms → (ms + (p - 1)) / p ≡ suc j
-between p j ms h a b =
-    let e : ms + (p - 1) ≡ suc j * p + (ms + (p - 1) - suc j * p) = omega (arith, suc-mul j p) in
-    rw e (digits-div (suc j) (omega (arith, suc-mul j p)))
+-- the quotient is k where k ticks last as long as the time, by less than a tick
+between : (p k ms : ℕ) → 1 ≤ p → ms ≤ k * p → k * p - ms < p → (ms + (p - 1)) / p ≡ k
+between p k ms h a b =
+    let e : ms + (p - 1) ≡ k * p + (ms + (p - 1) - k * p) = omega arith in rw e (digits-div k (omega arith))
 
--- and it lies so where the quotient is k
+-- and they last so where the quotient is k
 lower : (p ms : ℕ) → 1 ≤ p → (ms + (p - 1)) / p * p < ms + p
 lower p ms h = omega (arith, div-mul-le-self (ms + (p - 1)) p)
 
@@ -24,31 +23,23 @@ upper : (p ms : ℕ) → 1 ≤ p → ms ≤ (ms + (p - 1)) / p * p
 upper p ms h = omega (arith, lt-div-mul-add {a = ms + (p - 1)} {b = p} h)
 
 -- the two tests say that k is the number of ticks
-pub covers-is : (p k ms : ℕ) → 1 ≤ p → 1 ≤ k → (leb ms (k * p) && ltb ((k - 1) * p) ms) ≡ eqb k (ticksOf p ms)
+pub covers-is : (p k ms : ℕ) → 1 ≤ p → (leb ms (k * p) && ltb (k * p - ms) p) ≡ eqb k (ticksOf p ms)
 unfolding ticksOf
-covers-is p zero ms h z = absurd (omega arith)
-covers-is p (suc j) ms h z =
-    let e : suc j - 1 ≡ j = omega arith in
-    rw e (go (leb ms (suc j * p)) (ltb (j * p) ms) (eqb (suc j) ((ms + (p - 1)) / p)) refl refl refl)
+covers-is p k ms h = go (leb ms (k * p)) (ltb (k * p - ms) p) (eqb k ((ms + (p - 1)) / p)) refl refl refl
   where
-    go : (a b c : Bool) → leb ms (suc j * p) ≡ a → ltb (j * p) ms ≡ b → eqb (suc j) ((ms + (p - 1)) / p) ≡ c → (a && b) ≡ c
+    go : (a b c : Bool) → leb ms (k * p) ≡ a → ltb (k * p - ms) p ≡ b → eqb k ((ms + (p - 1)) / p) ≡ c → (a && b) ≡ c
     go true true true x y w = refl
     go true true false x y w =
-        absurd (eqb-false (suc j) ((ms + (p - 1)) / p) w (sym (between p j ms h (leb-true ms (suc j * p) x) (ltb-true (j * p) ms y))))
+        absurd (eqb-false k ((ms + (p - 1)) / p) w (sym (between p k ms h (leb-true ms (k * p) x) (ltb-true (k * p - ms) p y))))
     go true false true x y w =
-        let q = rw (← eqb-true (suc j) ((ms + (p - 1)) / p) w) at (lower p ms h) in
-        absurd (omega (arith, q, suc-mul j p, ltb-false (j * p) ms y))
+        let q = rw (← eqb-true k ((ms + (p - 1)) / p) w) at (lower p ms h) in
+        absurd (omega (arith, q, leb-true ms (k * p) x, ltb-false (k * p - ms) p y))
     go true false false x y w = refl
     go false b true x y w =
-        let q = rw (← eqb-true (suc j) ((ms + (p - 1)) / p) w) at (upper p ms h) in absurd (omega (arith, q, leb-false ms (suc j * p) x))
+        let q = rw (← eqb-true k ((ms + (p - 1)) / p) w) at (upper p ms h) in absurd (omega (arith, q, leb-false ms (k * p) x))
     go false b false x y w = refl
 
--- no time takes no tick, and any other takes one
-pub no-tick : (p : ℕ) → 1 ≤ p → ticksOf p 0 ≡ 0
-unfolding ticksOf
-no-tick p h =
-    let e : 0 + (p - 1) ≡ 0 * p + (p - 1) = omega arith in rw e (digits-div 0 (omega arith))
-
+-- a time takes a tick
 pub some-tick : (p ms : ℕ) → 1 ≤ p → 1 ≤ ms → ticksOf p ms ≡ 0 → ⊥
 unfolding ticksOf
 some-tick p ms h z e = let q = rw e at (upper p ms h) in omega arith

@@ -43,11 +43,12 @@ pub fn to_ticks(period: u64, ms: u64) -> Conversion
 
 // Do `count` ticks, and no fewer, last `ms` milliseconds?
 fn covers(period: u64, ms: u64, count: u64) -> bool
-    requires { ⌜ (period ≤ periodMost) × (1 ≤ count) × (count ≤ timeMost) ⌝ }
-    ensures { λ r. ⌜ r ≡ (leb ms (count * period) && ltb ((count - 1) * period) ms) ⌝ }
+    requires { ⌜ (period ≤ periodMost) × (count ≤ timeMost) ⌝ }
+    ensures { λ r. ⌜ r ≡ (leb ms (count * period) && ltb (count * period - ms) period) ⌝ }
 {
-    if ms <= count * period {
-        return (count - 1) * period < ms;
+    let lasts = count * period;
+    if ms <= lasts {
+        return lasts - ms < period;
     }
     false
 }
@@ -64,12 +65,6 @@ pub fn is_conversion(period: u64, ms: u64, ticks: u16) -> bool
     }
     if TIME_MOST < ms {
         return ticks == 0;
-    }
-    if ms == 0 {
-        return ticks == 0;
-    }
-    if ticks == 0 {
-        return false;
     }
     covers(period, ms, ticks as u64)
 }

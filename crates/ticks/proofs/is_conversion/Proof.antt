@@ -1,17 +1,6 @@
 -- `ticks::is_conversion` meets its contract. Assumes nothing.
-use mathlib.Core.Path.{sym}
 use native.Mathlib.Omega.{arith}
-use borrow.Author.Tests.{ne-eqb}
-use Rattle.ticks.specs.Ticks.{ticksOf}
-use Rattle.ticks.proofs.Rounding.{
-  covers-is,
-  no-tick,
-  period-too-long,
-  period-too-short,
-  some-tick,
-  time-too-long,
-  within,
-}
+use Rattle.ticks.proofs.Rounding.{covers-is, period-too-long, period-too-short, time-too-long, within}
 use Rattle.ticks.proofs.is_conversion.Statement.{statement}
 use Rattle.ticks.proofs.is_conversion.Tie as tie
 
@@ -32,24 +21,8 @@ returns-4 : tie.Need-returns-4
 returns-4 c =
     let b = c .before in
     let a = b .before .before .before .args in
-    rw (← within (a .period) (a .ms) (b .before .before .if1 .left) (b .before .if2 .left) (b .if3 .left), c .if4 .taken, no-tick (a .period) (omega arith))
-
-returns-5 : tie.Need-returns-5
-returns-5 c =
-    let b = c .before .before in
-    let a = b .before .before .before .args in
-    rw (
-      ← within (a .period) (a .ms) (b .before .before .if1 .left) (b .before .if2 .left) (b .if3 .left),
-      c .if5 .taken,
-      ne-eqb 0 (ticksOf (a .period) (a .ms)) (λ e. some-tick (a .period) (a .ms) (omega arith) (omega arith) (sym e)),
-    )
-
-returns-6 : tie.Need-returns-6
-returns-6 c =
-    let b = c .before .before .before in
-    let a = b .before .before .before .args in
     rw (c .covers .ensures, ← within (a .period) (a .ms) (b .before .before .if1 .left) (b .before .if2 .left) (b .if3 .left))
-    (covers-is (a .period) (a .ticks) (a .ms) (omega arith) (omega arith))
+    (covers-is (a .period) (a .ticks) (a .ms) (omega arith))
 
 pub is-conversion-spec : {M : Type 1} → statement M
-is-conversion-spec = tie.close (tie.spec returns returns-2 returns-3 returns-4 returns-5 (λ c κs. (omega arith, omega arith, omega arith)) returns-6)
+is-conversion-spec = tie.close (tie.spec returns returns-2 returns-3 (λ c κs. (omega arith, omega arith)) returns-4)
