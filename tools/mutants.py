@@ -25,12 +25,17 @@ KINDS = {
     "callee": "another function of the same type, as `either` for `both`",
     "operator": "another operator of arithmetic",
     "dropped": "a statement left out",
+    "fixed": "a fixed value for an argument, for a field of a struct or for the test of a branch",
+    "part": "a part of a slice for the slice: no byte of it, or all but the first",
+    "result": "a fixed value for what a function gives, or that number and one, or the contrary of that truth value",
 }
 COMPARISONS = {"<": ["<=", ">"], "<=": ["<", ">="], ">": [">=", "<"], ">=": [">", "<="], "==": ["!="], "!=": ["=="]}
 CONTRARY = {"<": ">=", "<=": ">", ">": "<=", ">=": "<", "==": "!=", "!=": "=="}
 OPERATORS = {"+": "-", "-": "+", "*": "+", "/": "%", "%": "/", "<<": ">>", ">>": "<<", "&": "|", "+=": "-=", "-=": "+="}
 # The tests of crate `choice`. Their arguments are not exchanged: that changes nothing.
 TESTS = {"both": "either", "either": "both", "unlike": "either"}
+NUMBERS = ("u8", "u16", "u32", "u64", "usize")
+SLICE = re.compile(r"(?:mut)?\[[^;]*\]")
 NO_EXPRESSION = ("let", "return", "if", "while", "loop", "for", "match", "break", "continue")
 
 TOKEN = re.compile(
@@ -283,6 +288,8 @@ class Finder:
                 self.name(i)
             else:
                 self.sign(i)
+        if self.item.is_function:
+            self.result()
         return sorted(self.found.values(), key=lambda m: (m.start, m.end))
 
     def add(self, kind, first, behind, new):
@@ -306,6 +313,26 @@ class Finder:
             other = next((n for n in range(k + 1, min(len(parts), len(types))) if types[n] == types[k]), None)
             if other is not None:
                 self.exchange("swap", parts[k], parts[other])
+
+    def fixed_values(self, type_):
+        """Two values of a type, where it has some that can be written without knowing more of it."""
+        if type_ in NUMBERS:
+            return ["0", "1"]
+        if type_ == "bool":
+            return ["false", "true"]
+        enum = self.look_up(self.sources.enums, [type_]) if type_ and type_.isidentifier() else None
+        plain = [name for name, carried in enum or [] if not carried]
+        return [f"{type_}::{name}" for name in dict.fromkeys(plain[:1] + plain[-1:])]
+
+    def fix(self, parts, types, before=""):
+        """Puts fixed values, or parts of a slice, for each argument or field; `before` names a field that has no colon."""
+        for (first, behind), type_ in zip(parts, types):
+            for value in self.fixed_values(type_) if first < behind else []:
+                self.add("fixed", first, behind, before + value)
+            if behind == first + 1 and self.code[first].kind == "name" and type_ and SLICE.fullmatch(type_):
+                sign = "&mut " if type_.startswith("mut") else "&"
+                for part in "[..0]", "[1..]":
+                    self.add("part", first, behind, before + sign + self.code[first].text + part)
 
     def put_next(self, kind, i, members):
         """Puts the next of the members with the same type, in a circle, for the name at i. Gives the type."""
@@ -388,6 +415,7 @@ class Finder:
             self.add("branch", tests[0], tests[0] + 1, CONTRARY[code[tests[0]].text])
         else:
             self.add("branch", i + 1, block, f"!({self.source(i + 1, block)})")
+        self.fix([(i + 1, block)], ["bool"])
 
     def fields(self, i):
         """The fields named behind a local, as in `c.times.wait`."""
@@ -409,7 +437,13 @@ class Finder:
                 self.put_next("variant", i, enum)
         elif struct and after == "{":
             values = [(f + 2, b, code[f].text) for f, b in code.parts(i + 1) if code.text(f + 1) == ":"]
-            self.exchange_alike([value[:2] for value in values], [dict(struct).get(value[2]) for value in values])
+            parts, types = [value[:2] for value in values], [dict(struct).get(value[2]) for value in values]
+            self.exchange_alike(parts, types)
+            self.fix(parts, types)
+            for first, behind in code.parts(i + 1):
+                if behind == first + 1:
+                    name = code[first].text
+                    self.fix([(first, behind)], [dict(struct).get(name)], f"{name}: ")
         elif struct and after == "(":
             self.exchange_alike(code.parts(i + 1), [type_ for _, type_ in struct])
         elif function and after == "(":
@@ -430,7 +464,9 @@ class Finder:
         elif leaf in TESTS:
             self.add("callee", i, i + 1, TESTS[leaf])
         else:
-            self.exchange_alike(arguments, [type_ for _, type_ in function.parameters])
+            types = [type_ for _, type_ in function.parameters]
+            self.exchange_alike(arguments, types)
+            self.fix(arguments, types)
             self.put_beside("callee", i, self.sources.functions, function)
 
     def statement(self, i):
@@ -438,6 +474,28 @@ class Finder:
         end = self.code.find(i, ";")
         if end < self.item.behind and self.code.around[end] == self.code.around[i]:
             self.add("dropped", i, end + 1, "")
+
+    def result(self):
+        """What a function gives: the last expression of its body."""
+        code, body, end = self.code, self.item.first, self.item.behind - 1
+        first = i = body + 1
+        while i < end:
+            i = code.find(i, ";", "{")
+            if i < end and code[i].text == "{":  # of a statement that ends with its block, or of the last expression
+                i = code.partner[i]
+                if code.text(i + 1) == "else" or code[first].text not in ("while", "loop", "if", "match"):
+                    i += 1
+                    continue
+            if i + 1 < end:
+                first = i + 1
+            i += 1
+        type_ = self.item.result
+        for value in self.fixed_values(type_):
+            self.add("result", first, end, value)
+        if type_ in NUMBERS:
+            self.add("result", first, end, f"{self.source(first, end)} + 1")
+        elif type_ == "bool":
+            self.add("result", first, end, f"!({self.source(first, end)})")
 
     # ---- the types of locals
 

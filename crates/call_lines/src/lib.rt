@@ -2,6 +2,7 @@
 //
 // Promises: the run after all of them and the text that they print, by the definition of specs/CallLines. Leaves to others:
 // what one line comes to (`replay`), and the lines of the configuration before them (`trace`).
+use config::PNC_MOST;
 use runs::Phase;
 use runs::Run;
 use runs::Step;
@@ -25,7 +26,7 @@ pub fn running(run: Run, text: &[u8], from: usize, out: &mut [u8], begin: usize)
     let t = run.channel.own.ticks;
     let passes = soundness::configured(c, t);
     let setup = traffic::setup_of(c, t);
-    let mut tops = [0u16; 56];
+    let mut tops = [0u16; PNC_MOST];
     soundness::put_tops(c, t, &mut tops);
     let mut m = run.channel.own.mode;
     let mut x = run.channel.own.traffic;

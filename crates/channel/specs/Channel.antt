@@ -14,6 +14,7 @@ use Rattle.timers.specs.Timers.{countedDown, vectorByte, vectorsDiffer}
 use Rattle.pnc.specs.Pnc.{numberIn, numberOrZero, rangeOf}
 use Rattle.config.specs.declared.Config.{Config}
 use Rattle.config.specs.declared.Ticks.{Ticks}
+use Rattle.config.specs.Ranges.{pduMost, pncMost, pnMost}
 use Rattle.rules.specs.Rules.{firstBroken, ticksFor}
 use Rattle.states.specs.declared.State.the-variants.{BusSleep}
 use Rattle.states.specs.declared.Mode.{Mode}
@@ -64,11 +65,11 @@ fresh c t =
             ticks = t;
             mode = freshMode;
             traffic = freshTraffic;
-            user = replicate 8 255;
-            requests = replicate 8 0;
-            era = replicate 56 0;
+            user = replicate pduMost 255;
+            requests = replicate pduMost 0;
+            era = replicate pncMost 0;
           };
-      eira = replicate 56 0;
+      eira = replicate pncMost 0;
     }
 
 -- initialising: 0, or 2 with the rule and a channel that is all zeros
@@ -81,7 +82,7 @@ zeroConfig =
       node = 0;
       passive = false;
       layout = record { length = 0; sni = 0; cbv = 0 };
-      pn = record { on = false; start = 0; length = 0; awake = false; masked = 0; mask = replicate 8 0 };
+      pn = record { on = false; start = 0; length = 0; awake = false; masked = 0; mask = replicate pduMost 0 };
     }
 
 abbrev pub zeroTicks : Ticks
@@ -96,11 +97,11 @@ zero =
             ticks = zeroTicks;
             mode = mode BusSleep false false false 0 0 0;
             traffic = freshTraffic;
-            user = replicate 8 0;
-            requests = replicate 8 0;
-            era = replicate 56 0;
+            user = replicate pduMost 0;
+            requests = replicate pduMost 0;
+            era = replicate pncMost 0;
           };
-      eira = replicate 56 0;
+      eira = replicate pncMost 0;
     }
 
 abbrev pub started : Channel → Answer → Started
@@ -346,7 +347,7 @@ shown ch =
     }
 
 unfoldable pub unshown : Answer → Status
-unshown a = record { answer = a; state = 0; era = replicate 7 0; eira = replicate 7 0; count = 0; lowest = 0 }
+unshown a = record { answer = a; state = 0; era = replicate pnMost 0; eira = replicate pnMost 0; count = 0; lowest = 0 }
 
 unfoldable pub statusOf : Channel → Status
 statusOf ch = cond (isDone (answerOf ch status)) (shown ch) (unshown (answerOf ch status))

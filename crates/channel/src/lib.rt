@@ -6,6 +6,8 @@
 use answers::Answer;
 use config::Config;
 use config::Layout;
+use config::PDU_MOST;
+use config::PNC_MOST;
 use config::Partial;
 use config::Ticks;
 use config::Times;
@@ -36,10 +38,10 @@ pub fn channel_of(
     t: Ticks,
     m: Mode,
     x: Traffic,
-    user: [u8; 8],
-    requests: [u8; 8],
-    era: [u16; 56],
-    eira: [u16; 56],
+    user: [u8; PDU_MOST],
+    requests: [u8; PDU_MOST],
+    era: [u16; PNC_MOST],
+    eira: [u16; PNC_MOST],
 ) -> Channel
     ensures { λ r. ⌜ r ≡ channelOf c t m x user requests era eira ⌝ }
 {
@@ -150,10 +152,10 @@ pub fn reply_of(
     c: Config,
     t: Ticks,
     e: Effect,
-    user: [u8; 8],
-    requests: [u8; 8],
-    era: [u16; 56],
-    eira: [u16; 56],
+    user: [u8; PDU_MOST],
+    requests: [u8; PDU_MOST],
+    era: [u16; PNC_MOST],
+    eira: [u16; PNC_MOST],
 ) -> Reply
     ensures { λ r. ⌜ r ≡ replyOf c t e user requests era eira ⌝ }
 {
@@ -251,7 +253,7 @@ fn zero_config() -> Config
         length: 0,
         awake: false,
         masked: 0,
-        mask: [0; 8],
+        mask: [0; PDU_MOST],
     };
     Config {
         period: 0,
@@ -284,10 +286,10 @@ fn zero() -> Channel
 // ---- the channel
 
 impl Channel {
-    // One reset timer for each bit of seven PN bytes, the most that a PDU of eight has room for.
-    pub const TIMERS: usize = 56;
+    // One reset timer for each PNC.
+    pub const TIMERS: usize = PNC_MOST;
     // The most bytes of user data or PN requests.
-    pub const BYTES: usize = 8;
+    pub const BYTES: usize = PDU_MOST;
     // User data that was not set.
     pub const UNSET: u8 = 0xFF;
 

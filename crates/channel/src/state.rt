@@ -1,6 +1,9 @@
 // The channel's value and what its calls give.
 use answers::Answer;
 use config::Config;
+use config::PDU_MOST;
+use config::PN_MOST;
+use config::PNC_MOST;
 use config::Ticks;
 use states::Mode;
 use states::Note;
@@ -12,14 +15,14 @@ pub struct Own {
     pub ticks: Ticks, // what the configuration's times come to
     pub mode: Mode,
     pub traffic: Traffic,
-    pub user: [u8; 8],
-    pub requests: [u8; 8], // PN requests
-    pub era: [u16; 56], // reset timers of the external requests
+    pub user: [u8; PDU_MOST],
+    pub requests: [u8; PDU_MOST], // PN requests
+    pub era: [u16; PNC_MOST], // reset timers of the external requests
 }
 
 pub struct Channel {
     pub own: Own,
-    pub eira: [u16; 56], // reset timers of the external and internal requests
+    pub eira: [u16; PNC_MOST], // reset timers of the external and internal requests
 }
 
 // The notes of a call in the order raised: a call raises at most two, then EI and ER close it.
@@ -58,8 +61,8 @@ pub struct Started {
 pub struct Status {
     pub answer: Answer,
     pub state: u8,
-    pub era: [u8; 7],
-    pub eira: [u8; 7],
+    pub era: [u8; PN_MOST],
+    pub eira: [u8; PN_MOST],
     pub count: u32,
     pub lowest: u32,
 }

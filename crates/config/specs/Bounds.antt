@@ -6,6 +6,7 @@ use lib.Dec.{leb, ltb}
 use lib.ListN.{getD, length}
 use Rattle.ticks.specs.Ticks.{periodLeast, periodMost, timeMost}
 use Rattle.config.specs.declared.Bounds.{Bounds}
+use Rattle.config.specs.Ranges.{pduMost}
 
 abbrev pub row : ℕ → ℕ → Bounds
 row least most = record { 0 = least; 1 = most }
@@ -25,7 +26,7 @@ table =
     ∷ row 0 timeMost
     ∷ row 0 255
     ∷ row 0 255
-    ∷ row 1 8
+    ∷ row 1 pduMost
     ∷ []
 
 -- the row of each field

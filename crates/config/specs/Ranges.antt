@@ -1,10 +1,20 @@
 -- The byte ranges of a PDU of l bytes: a header of h bytes, the PN range of n bytes from f on, and the user data.
 -- Assumes nothing.
-use Prim.Native.Nat.{ℕ, _+_, _-_}
+use Prim.Native.Nat.{ℕ, _+_, _-_, _*_}
 use mathlib.Core.Bool.{cond}
 use lib.Dec.{eqb}
 use Rattle.config.specs.declared.Layout.{Layout}
 use Rattle.config.specs.declared.Config.{Config}
+
+-- the most bytes of a PDU, and of a PN range, since the control bit vector takes one; the most PNCs, one for each bit
+abbrev pub pduMost : ℕ
+pduMost = 8
+
+abbrev pub pnMost : ℕ
+pnMost = 7
+
+abbrev pub pncMost : ℕ
+pncMost = 8 * pnMost
 
 -- the position of a header field that is off: it takes no byte
 abbrev pub off : ℕ

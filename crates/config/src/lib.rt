@@ -9,6 +9,17 @@ ghost use lib.Dec.{leb, eqb};
 ghost use Rattle.config.specs.Bounds.{within};
 ghost use Rattle.config.specs.Ranges.{off, bytesOf, headerLength, userStartOf, userLengthOf};
 
+// ---- sizes
+
+// The most bytes of an NM PDU.
+pub const PDU_MOST: usize = 8;
+
+// The most bytes of a PN range, since the control bit vector takes one.
+pub const PN_MOST: usize = 7;
+
+// The most PNCs: one for each bit of a PN range.
+pub const PNC_MOST: usize = 8 * PN_MOST;
+
 // ---- the fields
 
 // The times of a channel in milliseconds (AUTOSAR's parameter, document 01's letter).
@@ -53,7 +64,7 @@ pub struct Partial {
     pub length: u64,
     pub awake: bool, // CanNmAllNmMessagesKeepAwake
     pub masked: u64,
-    pub mask: [u8; 8],
+    pub mask: [u8; PDU_MOST],
 }
 
 pub struct Config {
@@ -108,7 +119,7 @@ pub const BOUNDS: [Bounds; 12] = [
     Bounds(0, ticks::TIME_MOST),
     Bounds(0, 255),
     Bounds(0, 255),
-    Bounds(1, 8),
+    Bounds(1, PDU_MOST as u64),
 ];
 
 // Does a value stand within the bounds of its field? No value does where there is no such field.

@@ -5,6 +5,7 @@
 // configuration (`rules`).
 use config::Config;
 use config::Layout;
+use config::PDU_MOST;
 use config::Partial;
 use config::Times;
 use settings::Setting;
@@ -74,7 +75,7 @@ fn config_of(t: &[u64; settings::CFG_FIELDS]) -> Config
             length: 0,
             awake: false,
             masked: 0,
-            mask: [0; 8],
+            mask: [0; PDU_MOST],
         },
     }
 }

@@ -5,6 +5,8 @@
 use channel::state::Effect;
 use commands::Command;
 use config::Config;
+use config::PDU_MOST;
+use config::PNC_MOST;
 use config::Ticks;
 use states::Mode;
 use states::Traffic;
@@ -21,10 +23,10 @@ fn carry_out_whole(
     t: Ticks,
     m: Mode,
     x: Traffic,
-    user: &mut [u8; 8],
-    requests: &mut [u8; 8],
-    era: &mut [u16; 56],
-    eira: &mut [u16; 56],
+    user: &mut [u8; PDU_MOST],
+    requests: &mut [u8; PDU_MOST],
+    era: &mut [u16; PNC_MOST],
+    eira: &mut [u16; PNC_MOST],
     k: Command,
     bytes: &[u8],
     frame: &mut [u8],
@@ -65,10 +67,10 @@ pub fn carry_out_in_place(
     t: Ticks,
     m: Mode,
     x: Traffic,
-    user: &mut [u8; 8],
-    requests: &mut [u8; 8],
-    era: &mut [u16; 56],
-    eira: &mut [u16; 56],
+    user: &mut [u8; PDU_MOST],
+    requests: &mut [u8; PDU_MOST],
+    era: &mut [u16; PNC_MOST],
+    eira: &mut [u16; PNC_MOST],
     k: Command,
     bytes: &[u8],
     frame: &mut [u8],

@@ -3,6 +3,8 @@
 // Promises: each function is a definition of specs/; lent bytes are given whole. Leaves to others: where a field stands
 // (`layout`), which PN bytes keep a PDU (`filter`), and when a frame is sent (`sending`).
 use config::Config;
+use config::PDU_MOST;
+use config::PNC_MOST;
 use states::Traffic;
 ghost use mathlib.Core.Path.{_≡_};
 ghost use mathlib.Core.Bool.{cond};
@@ -14,31 +16,36 @@ ghost use Rattle.frames.specs.Frames.{accepted, asksRepeat, cbvSent, fra
 
 // ---- tables and bytes at their lengths
 
-fn load<'a>(bytes: &'a [u8], mask: &'a [u8; 8], reset: u16, timers: &mut [u16; 56]) -> bool
+fn load<'a>(
+    bytes: &'a [u8],
+    mask: &'a [u8; PDU_MOST],
+    reset: u16,
+    timers: &mut [u16; PNC_MOST],
+) -> bool
     ensures { λ r. ⌜ (now (timers .exit) ≡ loadedWhere (now (bytes .entry)) (now (mask .entry)) reset (now (timers .entry))) × (r ≡ vectorsDiffer (now (timers .entry)) (loadedWhere (now (bytes .entry)) (now (mask .entry)) reset (now (timers .entry)))) ⌝ }
 {
     timers::load_where(bytes, mask, reset, timers)
 }
 
-fn differ(a: &[u16; 56], b: &[u16; 56]) -> bool
+fn differ(a: &[u16; PNC_MOST], b: &[u16; PNC_MOST]) -> bool
     ensures { λ r. ⌜ r ≡ vectorsDiffer (now (a .entry)) (now (b .entry)) ⌝ }
 {
     timers::vectors_differ(a, b)
 }
 
-pub fn count_down(timers: &mut [u16; 56]) -> bool
+pub fn count_down(timers: &mut [u16; PNC_MOST]) -> bool
     ensures { λ r. ⌜ (now (timers .exit) ≡ countedDown (now (timers .entry))) × (r ≡ vectorsDiffer (now (timers .entry)) (countedDown (now (timers .entry)))) ⌝ }
 {
     timers::count_down(timers)
 }
 
-pub fn store(bytes: &[u8], dst: &mut [u8; 8])
+pub fn store(bytes: &[u8], dst: &mut [u8; PDU_MOST])
     ensures { λ r. ⌜ now (dst .exit) ≡ sets (now (dst .entry)) 0 (now (bytes .entry)) ⌝ }
 {
     slices::copy(bytes, dst);
 }
 
-fn keeps<'a>(awake: bool, cbv: u32, pn: &'a [u8], mask: &'a [u8; 8]) -> bool
+fn keeps<'a>(awake: bool, cbv: u32, pn: &'a [u8], mask: &'a [u8; PDU_MOST]) -> bool
     ensures { λ r. ⌜ r ≡ keeps awake cbv (now (pn .entry)) (now (mask .entry)) ⌝ }
 {
     filter::keeps(awake, cbv, pn, mask)
@@ -67,7 +74,7 @@ pub fn asks_repeat(c: Config, pdu: &[u8]) -> bool
 }
 
 // Its PN bits load a table. Answers whether the vector changed by it.
-pub fn load_heard(c: Config, reset: u16, pdu: &[u8], timers: &mut [u16; 56]) -> bool
+pub fn load_heard(c: Config, reset: u16, pdu: &[u8], timers: &mut [u16; PNC_MOST]) -> bool
     ensures { λ r. ⌜ (now (timers .exit) ≡ loadedBy c reset (now (pdu .entry)) (now (timers .entry))) × (r ≡ vectorsDiffer (now (timers .entry)) (loadedBy c reset (now (pdu .entry)) (now (timers .entry)))) ⌝ }
 {
     let mask = c.pn.mask;
@@ -94,7 +101,13 @@ fn bit(set: bool, weight: u8) -> u8
 }
 
 // The channel's fields in a lent frame.
-pub fn send<'a>(c: Config, x: Traffic, requests: &'a [u8; 8], user: &'a [u8; 8], frame: &mut [u8])
+pub fn send<'a>(
+    c: Config,
+    x: Traffic,
+    requests: &'a [u8; PDU_MOST],
+    user: &'a [u8; PDU_MOST],
+    frame: &mut [u8],
+)
     ensures { λ r. ⌜ now (frame .exit) ≡ framed c x (now (requests .entry)) (now (user .entry)) (now (frame .entry)) ⌝ }
 {
     let pn = slices::part(requests, 0, c.pn.length as usize);
@@ -110,7 +123,12 @@ pub fn send<'a>(c: Config, x: Traffic, requests: &'a [u8; 8], user: &'a [u8; 8],
 }
 
 // The timers that a sent frame loads, after a tick has counted them down. Answers whether the vector changed by both.
-pub fn load_sent(c: Config, reset: u16, requests: &[u8; 8], timers: &mut [u16; 56]) -> bool
+pub fn load_sent(
+    c: Config,
+    reset: u16,
+    requests: &[u8; PDU_MOST],
+    timers: &mut [u16; PNC_MOST],
+) -> bool
     ensures { λ r. ⌜ (now (timers .exit) ≡ sentLoaded c reset (now (requests .entry)) (now (timers .entry))) × (r ≡ vectorsDiffer (now (timers .entry)) (sentLoaded c reset (now (requests .entry)) (now (timers .entry)))) ⌝ }
 {
     let before = *timers;

@@ -4,6 +4,7 @@
 // fields give; that the line's first 81 bytes say the same as the line (proofs/Cut). Leaves to others: line 1
 // (`config_line`), and the rules of a configuration (`rules`).
 use config::Config;
+use config::PDU_MOST;
 use config::Partial;
 use config::Times;
 use settings::Setting;
@@ -64,7 +65,12 @@ fn partial_reads(t: &[u64; settings::CFG_FIELDS]) -> bool
 }
 
 // The configuration with PN on, and the mask of so many bytes.
-fn with_partial(c: Config, t: &[u64; settings::CFG_FIELDS], pairs: usize, mask: &[u8; 8]) -> Config
+fn with_partial(
+    c: Config,
+    t: &[u64; settings::CFG_FIELDS],
+    pairs: usize,
+    mask: &[u8; PDU_MOST],
+) -> Config
     ensures { λ r. ⌜ r ≡ withPartial c (now (t .entry)) pairs (now (mask .entry)) ⌝ }
 {
     let layout = c.layout;
@@ -101,7 +107,7 @@ pub fn read_partial(c: Config, l: &[u8]) -> Setting
 {
     let mut t = [0u64; settings::CFG_FIELDS];
     let n = fields::tokens(l, &mut t);
-    let mut mask = [0u8; 8];
+    let mut mask = [0u8; PDU_MOST];
     let hex = mask_text(l);
     let pairs = hex::hex_pairs(hex, &mut mask);
     Setting {

@@ -6,6 +6,7 @@ use channel::state::Channel;
 use channel::state::Effect;
 use channel::state::Reply;
 use config::Config;
+use config::PNC_MOST;
 use config::Ticks;
 use decision::Rule;
 use states::Mode;
@@ -27,8 +28,8 @@ pub fn rx_indication_in_place(
     m: Mode,
     x: Traffic,
     pdu: &[u8],
-    era: &mut [u16; 56],
-    eira: &mut [u16; 56],
+    era: &mut [u16; PNC_MOST],
+    eira: &mut [u16; PNC_MOST],
 ) -> Effect
     requires { ⌜ ok ≡ soundOf c t m x (now era) (now eira) ⌝ }
     ensures { λ r. ⌜ ((user requests : List ℕ) → replyOf c t r user requests (now (era .exit)) (now (eira .exit)) ≡ replied (channelOf c t m x user requests (now (era .entry)) (now (eira .entry))) (rxIndication (now (pdu .entry)))) ⌝ }

@@ -12,6 +12,7 @@ use Rattle.commands.specs.declared.Asked.the-variants.{Unreadable, Call}
 use Rattle.commands.specs.Commands.{Reading, reading}
 use Rattle.config.specs.declared.Config.{Config}
 use Rattle.config.specs.declared.Ticks.{Ticks}
+use Rattle.config.specs.Ranges.{pduMost}
 use Rattle.states.specs.declared.Mode.{Mode}
 use Rattle.states.specs.declared.Traffic.{Traffic}
 use Rattle.report.specs.Report.{letterOf, lineText}
@@ -35,7 +36,7 @@ stepIn n c t m x user requests era eira at = record { run = runIn (counted n) c 
 
 -- the room of the frame that a tick is lent: the longest PDU's
 abbrev pub frameMost : ℕ
-frameMost = 8
+frameMost = pduMost
 
 -- the line of a reply, with the lent frame after the call
 unfoldable pub replyText : ℕ → Reply → List ℕ → List ℕ

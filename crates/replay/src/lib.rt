@@ -6,6 +6,8 @@
 use commands::Asked;
 use commands::Command;
 use config::Config;
+use config::PDU_MOST;
+use config::PNC_MOST;
 use config::Ticks;
 use runs::Phase;
 use runs::Run;
@@ -19,9 +21,7 @@ ghost use Rattle.runs.specs.Runs.{Gives, printedMost};
 ghost use Rattle.soundness.specs.Sound.{soundOf};
 ghost use Rattle.replay.specs.Replay.{called, frameMost, laterLine, runIn, stepIn};
 
-// The most bytes of a frame, and of the bytes in hex of a line.
-const FRAME_MOST: usize = 8;
-
+// The most bytes in hex of a line.
 const BYTES_MOST: usize = 40;
 
 // What a line leaves of a channel in parts, whose tables and bytes it changes in place, and the place behind what is
@@ -40,10 +40,10 @@ fn called(
     t: Ticks,
     m: Mode,
     x: Traffic,
-    user: &mut [u8; 8],
-    requests: &mut [u8; 8],
-    era: &mut [u16; 56],
-    eira: &mut [u16; 56],
+    user: &mut [u8; PDU_MOST],
+    requests: &mut [u8; PDU_MOST],
+    era: &mut [u16; PNC_MOST],
+    eira: &mut [u16; PNC_MOST],
     n: u64,
     k: Command,
     bytes: &[u8],
@@ -53,7 +53,7 @@ fn called(
     requires { ⌜ (ok ≡ soundOf c t m x (now era) (now eira)) × (at + printedMost + 2 * frameMost ≤ length (now out)) ⌝ }
     ensures { λ r. ⌜ Gives (called (runIn n c t m x (now (user .entry)) (now (requests .entry)) (now (era .entry)) (now (eira .entry))) k (now (bytes .entry))) (now (out .entry)) at (now (out .exit)) (stepIn n c t (r .mode) (r .traffic) (now (user .exit)) (now (requests .exit)) (now (era .exit)) (now (eira .exit)) (r .at)) ⌝ }
 {
-    let mut frame = [0u8; FRAME_MOST];
+    let mut frame = [0u8; PDU_MOST];
     let e = dispatch_in_place::carry_out_in_place(
         ok,
         c,
@@ -98,10 +98,10 @@ pub fn later_line_in_place(
     t: Ticks,
     m: Mode,
     x: Traffic,
-    user: &mut [u8; 8],
-    requests: &mut [u8; 8],
-    era: &mut [u16; 56],
-    eira: &mut [u16; 56],
+    user: &mut [u8; PDU_MOST],
+    requests: &mut [u8; PDU_MOST],
+    era: &mut [u16; PNC_MOST],
+    eira: &mut [u16; PNC_MOST],
     n: u64,
     l: &[u8],
     out: &mut [u8],

@@ -11,6 +11,7 @@ use borrow.Author.Tests.{lt-ltb}
 use Rattle.timers.proofs.Timers.{within-zeros}
 use Rattle.config.specs.declared.Config.{Config}
 use Rattle.config.specs.declared.Ticks.{Ticks}
+use Rattle.config.specs.Ranges.{pncMost}
 use Rattle.rules.specs.Rules.{firstBroken, ticksFor}
 use Rattle.rules.proofs.Passes.{passes}
 use Rattle.states.specs.declared.Mode.{Mode}
@@ -75,8 +76,8 @@ unfolding fresh
 begin c t =
     whole {m = freshMode} {x = freshTraffic} (asleep {f = false} {k = none} tt) (record { unasked = λ h. refl; sends = λ h. refl })
     (record { message = refl; fast = omega arith; remote = refl; repeating = refl; waking = refl; indicated = refl })
-    (within-zeros (take (c .pn .length) (c .pn .mask)) (t .reset) 56)
-    (within-zeros (take (c .pn .length) (c .pn .mask)) (t .reset) 56)
+    (within-zeros (take (c .pn .length) (c .pn .mask)) (t .reset) pncMost)
+    (within-zeros (take (c .pn .length) (c .pn .mask)) (t .reset) pncMost)
 
 immediate-is : (c : Config) (t : Ticks) → c .immediate ≤ 255 → setupOf c t .immediate ≡ c .immediate
 unfolding setupOf

@@ -2,6 +2,8 @@
 //
 // Promises: each function is a definition of specs/. Leaves to others: refusing a state that is not sound (`channel`).
 use config::Config;
+use config::PDU_MOST;
+use config::PNC_MOST;
 use config::Ticks;
 use states::Mode;
 use states::State;
@@ -17,6 +19,7 @@ use traffic::setup_of;
 ghost use mathlib.Core.Path.{_≡_};
 ghost use mathlib.Core.Bool.{_&&_};
 ghost use lib.ListN.{length, take};
+ghost use Rattle.config.specs.Ranges.{pncMost};
 ghost use Rattle.timers.specs.Tops.{allUnder, topsOf};
 ghost use Rattle.rules.specs.Rules.{ticksFor};
 ghost use Rattle.soundness.specs.Sound.{configured, larger, modeSound, only, passiveSound, requestFits, runs, sameTicks, soundOf, trafficSound};
@@ -126,14 +129,14 @@ fn passive_sound(passive: bool, m: Mode, x: Traffic) -> bool
 }
 
 // Byte k of the first n bytes of a mask, 0 behind them.
-fn byte_within(n: u64, mask: &[u8; 8], k: u64) -> u8
+fn byte_within(n: u64, mask: &[u8; PDU_MOST], k: u64) -> u8
     ensures { λ r. ⌜ r ≡ byteWithin n (now (mask .entry)) k ⌝ }
 {
     choice::pick8(k < n, bits::byte_at(mask, k as usize), 0)
 }
 
 // The first n bytes of a mask, and zeros behind them, so that no loop over the timers has to test where the mask ends.
-fn filled_mask(n: u64, mask: &[u8; 8]) -> [u8; 8]
+fn filled_mask(n: u64, mask: &[u8; PDU_MOST]) -> [u8; PDU_MOST]
     ensures { λ r. ⌜ r ≡ filledMask n (now (mask .entry)) ⌝ }
 {
     [
@@ -149,15 +152,15 @@ fn filled_mask(n: u64, mask: &[u8; 8]) -> [u8; 8]
 }
 
 // The same with the mask as it is, at the lengths of both tables.
-fn put_tops_by(mask: &[u8; 8], reset: u16, tops: &mut [u16; 56])
+fn put_tops_by(mask: &[u8; PDU_MOST], reset: u16, tops: &mut [u16; PNC_MOST])
     ensures { λ r. ⌜ now (tops .exit) ≡ topsOf (now (mask .entry)) reset (now (tops .entry)) ⌝ }
-    ensures { λ r. ⌜ length (now (tops .entry)) ≡ 56 ⌝ }
+    ensures { λ r. ⌜ length (now (tops .entry)) ≡ pncMost ⌝ }
 {
     timers::put_tops(mask, reset, tops);
 }
 
 // The most that each PN timer may hold.
-pub fn put_tops(c: Config, t: Ticks, tops: &mut [u16; 56])
+pub fn put_tops(c: Config, t: Ticks, tops: &mut [u16; PNC_MOST])
     ensures { λ r. ⌜ now (tops .exit) ≡ topsOf (take (c .pn .length) (c .pn .mask)) (t .reset) (now (tops .entry)) ⌝ }
 {
     let mask = c.pn.mask;
@@ -166,9 +169,13 @@ pub fn put_tops(c: Config, t: Ticks, tops: &mut [u16; 56])
 }
 
 // The PN timers of both tables, at their lengths.
-fn timers_sound<'a>(tops: &'a [u16; 56], era: &'a [u16; 56], eira: &'a [u16; 56]) -> bool
+fn timers_sound<'a>(
+    tops: &'a [u16; PNC_MOST],
+    era: &'a [u16; PNC_MOST],
+    eira: &'a [u16; PNC_MOST],
+) -> bool
     ensures { λ r. ⌜ r ≡ (allUnder (now (tops .entry)) (now (era .entry)) && allUnder (now (tops .entry)) (now (eira .entry))) ⌝ }
-    ensures { λ r. ⌜ (length (now (era .entry)) ≡ 56) × (length (now (eira .entry)) ≡ 56) ⌝ }
+    ensures { λ r. ⌜ (length (now (era .entry)) ≡ pncMost) × (length (now (eira .entry)) ≡ pncMost) ⌝ }
 {
     timers::pair_under(tops, era, eira)
 }
@@ -180,12 +187,12 @@ pub fn sound_by<'a>(
     s: Setup,
     m: Mode,
     x: Traffic,
-    tops: &'a [u16; 56],
-    era: &'a [u16; 56],
-    eira: &'a [u16; 56],
+    tops: &'a [u16; PNC_MOST],
+    era: &'a [u16; PNC_MOST],
+    eira: &'a [u16; PNC_MOST],
 ) -> bool
     ensures { λ r. ⌜ r ≡ soundBy passes s m x (now (tops .entry)) (now (era .entry)) (now (eira .entry)) ⌝ }
-    ensures { λ r. ⌜ (length (now (era .entry)) ≡ 56) × (length (now (eira .entry)) ≡ 56) ⌝ }
+    ensures { λ r. ⌜ (length (now (era .entry)) ≡ pncMost) × (length (now (eira .entry)) ≡ pncMost) ⌝ }
 {
     let state = m.state;
     let mut ok = choice::both(passes, mode_sound(s.ticks, m));
@@ -200,12 +207,12 @@ pub fn sound<'a>(
     t: Ticks,
     m: Mode,
     x: Traffic,
-    era: &'a [u16; 56],
-    eira: &'a [u16; 56],
+    era: &'a [u16; PNC_MOST],
+    eira: &'a [u16; PNC_MOST],
 ) -> bool
     ensures { λ r. ⌜ r ≡ soundOf c t m x (now (era .entry)) (now (eira .entry)) ⌝ }
 {
-    let mut tops = [0u16; 56];
+    let mut tops = [0u16; PNC_MOST];
     put_tops(c, t, &mut tops);
     sound_by(configured(c, t), setup_of(c, t), m, x, &tops, era, eira)
 }

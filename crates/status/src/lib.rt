@@ -7,12 +7,14 @@ use bits::Lowest;
 use channel::state::Channel;
 use channel::state::Status;
 use config::Config;
+use config::PN_MOST;
+use config::PNC_MOST;
 use pnc::VectorBit;
 ghost use mathlib.Core.Path.{_≡_};
 ghost use Rattle.bits.specs.Bits.{countOnes, lowestIn};
 ghost use Rattle.channel.specs.Channel.{lowestPnc, statusOf, unshown, vectorOf};
 
-fn vector_of(t: &[u16; 56]) -> [u8; 7]
+fn vector_of(t: &[u16; PNC_MOST]) -> [u8; PN_MOST]
     ensures { λ r. ⌜ r ≡ vectorOf (now (t .entry)) ⌝ }
 {
     [
@@ -26,13 +28,13 @@ fn vector_of(t: &[u16; 56]) -> [u8; 7]
     ]
 }
 
-fn count_of(v: &[u8; 7]) -> u32
+fn count_of(v: &[u8; PN_MOST]) -> u32
     ensures { λ r. ⌜ r ≡ countOnes (now (v .entry)) ⌝ }
 {
     bits::count_ones(v)
 }
 
-fn lowest_of(c: Config, v: &[u8; 7]) -> u32
+fn lowest_of(c: Config, v: &[u8; PN_MOST]) -> u32
     ensures { λ r. ⌜ r ≡ lowestPnc c (lowestIn (now (v .entry))) ⌝ }
 {
     let range = pnc::range_of(c);
@@ -49,8 +51,8 @@ fn unshown(a: Answer) -> Status
     Status {
         answer: a,
         state: 0,
-        era: [0; 7],
-        eira: [0; 7],
+        era: [0; PN_MOST],
+        eira: [0; PN_MOST],
         count: 0,
         lowest: 0,
     }

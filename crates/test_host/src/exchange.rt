@@ -19,6 +19,9 @@ use channel::state::Notes;
 use channel::state::Own;
 use channel::state::Reply;
 use config::Config;
+use config::PDU_MOST;
+use config::PN_MOST;
+use config::PNC_MOST;
 use config::Ticks;
 use states::Mode;
 use states::Note;
@@ -84,7 +87,7 @@ fn state_of(number: u64) -> State {
     }
 }
 
-fn bytes_of(w: &[u64], k: usize) -> [u8; 8]
+fn bytes_of(w: &[u64], k: usize) -> [u8; PDU_MOST]
     requires { ⌜ k ≤ 1000 ⌝ }
 {
     [
@@ -99,11 +102,11 @@ fn bytes_of(w: &[u64], k: usize) -> [u8; 8]
     ]
 }
 
-fn load_timers(w: &[u64], k: usize, timers: &mut [u16; 56])
+fn load_timers(w: &[u64], k: usize, timers: &mut [u16; PNC_MOST])
     requires { ⌜ k ≤ 1000 ⌝ }
 {
     let mut i: usize = 0;
-    while i < 56 {
+    while i < PNC_MOST {
         timers[i] = word(w, k + i);
         i = i + 1;
     }
@@ -194,7 +197,7 @@ fn put_flag(w: &mut [u64], k: usize, set: bool) {
     }
 }
 
-fn put_bytes(w: &mut [u64], k: usize, bytes: &[u8; 8])
+fn put_bytes(w: &mut [u64], k: usize, bytes: &[u8; PDU_MOST])
     requires { ⌜ k ≤ 1000 ⌝ }
 {
     let mut i: usize = 0;
@@ -204,11 +207,11 @@ fn put_bytes(w: &mut [u64], k: usize, bytes: &[u8; 8])
     }
 }
 
-fn put_timers(w: &mut [u64], k: usize, timers: &[u16; 56])
+fn put_timers(w: &mut [u64], k: usize, timers: &[u16; PNC_MOST])
     requires { ⌜ k ≤ 1000 ⌝ }
 {
     let mut i: usize = 0;
-    while i < 56 {
+    while i < PNC_MOST {
         put_word(w, k + i, timers[i]);
         i = i + 1;
     }
@@ -404,7 +407,7 @@ pub extern "C" fn test_call(
     no_outcome()
 }
 
-fn put_vector(vector: &[u8; 7], out: &mut [u8]) {
+fn put_vector(vector: &[u8; PN_MOST], out: &mut [u8]) {
     let mut i: usize = 0;
     while i < out.len() {
         out[i] = bits::byte_at(vector, i);

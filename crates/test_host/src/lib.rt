@@ -2,6 +2,7 @@
 // independent implementation. Nothing of the product stands on this crate.
 use config::Config;
 use config::Layout;
+use config::PDU_MOST;
 use config::Partial;
 use config::Times;
 use pnc::BitOf;
@@ -38,7 +39,7 @@ fn at(numbers: &[u64], k: usize) -> u64 {
 }
 
 // The first eight bytes of a mask.
-fn mask_of(bytes: &[u8]) -> [u8; 8] {
+fn mask_of(bytes: &[u8]) -> [u8; PDU_MOST] {
     [
         bits::byte_at(bytes, 0),
         bits::byte_at(bytes, 1),

@@ -9,6 +9,8 @@ use channel::state::Effect;
 use channel::state::Notes;
 use channel::state::Reply;
 use config::Config;
+use config::PDU_MOST;
+use config::PNC_MOST;
 use config::Ticks;
 use states::Mode;
 use states::Note;
@@ -45,10 +47,10 @@ pub fn main_function_in_place<'a>(
     t: Ticks,
     m: Mode,
     old: Traffic,
-    user: &'a [u8; 8],
-    requests: &'a [u8; 8],
-    era: &mut [u16; 56],
-    eira: &mut [u16; 56],
+    user: &'a [u8; PDU_MOST],
+    requests: &'a [u8; PDU_MOST],
+    era: &mut [u16; PNC_MOST],
+    eira: &mut [u16; PNC_MOST],
     taken: bool,
     frame: &mut [u8],
 ) -> Effect

@@ -4,6 +4,7 @@ use Prim.Native.Nat.{_-_, _+_, _*_, _≤_, _<_}
 use native.Mathlib.Omega.{arith}
 use borrow.Author.Needs.{needs}
 use lib.ListN.{length, take, drop, replicate}
+use Rattle.config.specs.Ranges.{pncMost}
 use Rattle.print.proofs.Wrote.{wrote-length}
 use Rattle.soundness.specs.Sound.{soundOf}
 use Rattle.soundness.proofs.Alike.{sound-alike}
@@ -43,7 +44,7 @@ judged c =
     let a = c .before .before .before .before .before .before .before .before .before .before .before .before .before .before .before .before .before .before .before .before .before .before .before .args .run .channel .own in
     let w = c .sound-by .ensures in
     rw (w .0, b .before .before .before .before .before .before .before .before .before .before .configured .ensures, b .before .before .before .before .before .before .before .before .before .setup-of .ensures, b .before .before .before .before .before .before .before .put-tops .ensures)
-    (sound-alike (a .config) (a .ticks) (b .loop .m) (b .loop .x) (replicate 56 0) (b .loop .era) (b .loop .eira) (omega (arith, w .1 .0)) (omega (arith, w .1 .1)))
+    (sound-alike (a .config) (a .ticks) (b .loop .m) (b .loop .x) (replicate pncMost 0) (b .loop .era) (b .loop .eira) (omega (arith, w .1 .0)) (omega (arith, w .1 .1)))
 
 later-line-in-place-requires : tie.Need-later-line-in-place-requires Inv-loop μ-loop
 later-line-in-place-requires c κs =
