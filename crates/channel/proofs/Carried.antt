@@ -42,7 +42,7 @@ use Rattle.channel.specs.Channel.{
   trafficMoved,
   userAfter,
 }
-use Rattle.channel.specs.Moved.{movedTo, told}
+use Rattle.channel.specs.Moved.{movedTo, tickEffect}
 use Rattle.channel.specs.Parts.{replyOf, replyOn, unmoved}
 
 pub carried : (ch : Channel) (x : Call) {a : Answer} {r : Reply} {t : Bool} → a ≡ answerOf ch x → t ≡ isDone a → t ≡ true
@@ -85,7 +85,7 @@ tickTold ch taken sent eira =
     let s = setupOf (ch .own .config) (ch .own .ticks) in
     let rule = ruleOf (ch .own .mode .state) 12 in
     let after = modeBy rule false (ch .own .ticks) (ch .own .mode) in
-    told after (framing s after taken (trafficBy rule false s (ch .own .mode) after (ch .own .traffic)))
+    tickEffect after (framing s after taken (trafficBy rule false s (ch .own .mode) after (ch .own .traffic)))
     (firstBy rule (ch .own .mode) after)
     (secondBy rule (ch .own .mode) (ch .own .traffic))
     (vectorsDiffer (ch .eira) eira)
@@ -97,7 +97,7 @@ tick-carried : (ch : Channel) (taken : Bool) (room : ℕ) (sent : Bool) (eira : 
     → eiraAfter (ch .own) (ch .eira) (mainFunction taken room) ≡ eira
     → replyOf (ch .own .config) (ch .own .ticks) (tickTold ch taken sent eira) (ch .own .user) (ch .own .requests) (countedDown (ch .own .era)) eira
     ≡ carriedOut ch (mainFunction taken room)
-unfolding carriedOut ownAfter notesAfter modeAfter trafficAfter trafficMoved userAfter requestsAfter eraAfter ruleFor againFor told
+unfolding carriedOut ownAfter notesAfter modeAfter trafficAfter trafficMoved userAfter requestsAfter eraAfter ruleFor againFor tickEffect
 tick-carried ch taken room sent eira e w = rw (e, w)
 
 eira-sent : (ch : Channel) (taken : Bool) (room : ℕ) → sends (ch .own) (mainFunction taken room) ≡ true

@@ -47,5 +47,5 @@ plainly ch call passive off heeded =
     false
 
 -- the effect of a tick that is carried out
-unfoldable pub told : Mode → Traffic → Note → Note → Bool → Bool → Bool → Effect
-told m x first second ei er sent = effect m x Done first second ei er sent
+unfoldable pub tickEffect : Mode → Traffic → Note → Note → Bool → Bool → Bool → Effect
+tickEffect m x first second ei er sent = effect m x Done first second ei er sent

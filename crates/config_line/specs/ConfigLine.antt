@@ -6,7 +6,7 @@ use lib.Dec.{eqb, ltb}
 use lib.ListN.{getD, length, take, drop, replicate}
 use Rattle.config.specs.Ranges.{off}
 use Rattle.config.specs.declared.Config.{Config}
-use Rattle.fields.specs.Numbers.{dash, tokensOf}
+use Rattle.fields.specs.Numbers.{dashNumber, tokensOf}
 use Rattle.settings.specs.declared.Setting.{Setting}
 use Rattle.settings.specs.Settings.{allNumbers, cfgFields, isFlag, isLine, isNumber, tableOf}
 
@@ -15,11 +15,11 @@ abbrev pub cfgName : ℕ
 cfgName = 13
 
 abbrev pub isPosition : ℕ → Bool
-isPosition x = ltb x 2 || eqb x dash
+isPosition x = ltb x 2 || eqb x dashNumber
 
 -- a dash turns a header field off
 abbrev pub positionOf : ℕ → ℕ
-positionOf x = cond (eqb x dash) off x
+positionOf x = cond (eqb x dashNumber) off x
 
 unfoldable pub configReads : List ℕ → Bool
 configReads t =

@@ -12,7 +12,7 @@ use lib.Seq.{drop-cons}
 use lib.Dec.{eqb, ltb}
 use borrow.Author.Tests.{lt-ltb, le-ltb, eq-eqb, ne-eqb, ltb-false}
 use Rattle.fields.specs.Fields.{fieldsOf}
-use Rattle.fields.specs.Numbers.{dash, decimalOf, digitsMost, numberFrom, tokenOf, tokensOf, unreadable}
+use Rattle.fields.specs.Numbers.{dashNumber, decimalOf, fieldDigitsMost, numberFrom, tokenOf, tokensOf, unreadable}
 use Rattle.fields.proofs.Fields.{fields-short}
 
 -- ---- reading digits
@@ -38,8 +38,8 @@ module _ (s : List ℕ) (n i : ℕ) where
 pub grows : (n i d : ℕ) → n < 10 ^ i → d < 10 → n * 10 + d < 10 ^ (i + 1)
 grows n i d h e = rw (add-one, pow-suc) (omega arith)
 
-pub small : (n i : ℕ) → n < 10 ^ i → i ≤ digitsMost → n < dash
-small n i h e = let p : 10 ^ i ≤ 10 ^ digitsMost = pow-le-pow-right (omega arith) e in omega arith
+pub small : (n i : ℕ) → n < 10 ^ i → i ≤ fieldDigitsMost → n < dashNumber
+small n i h e = let p : 10 ^ i ≤ 10 ^ fieldDigitsMost = pow-le-pow-right (omega arith) e in omega arith
 
 -- ---- a number, by its length and its first byte
 
@@ -49,27 +49,27 @@ module _ (s : List ℕ) where
   decimal-empty h = rw (eq-eqb (length s) 0 h)
 
   module _ (some : length s ≡ 0 → ⊥) where
-    pub decimal-long : digitsMost < length s → unreadable ≡ decimalOf s
+    pub decimal-long : fieldDigitsMost < length s → unreadable ≡ decimalOf s
     unfolding decimalOf
-    decimal-long h = rw (ne-eqb (length s) 0 some, lt-ltb digitsMost (length s) h)
+    decimal-long h = rw (ne-eqb (length s) 0 some, lt-ltb fieldDigitsMost (length s) h)
 
-    module _ (short : length s ≤ digitsMost) where
+    module _ (short : length s ≤ fieldDigitsMost) where
       pub decimal-zero : 1 < length s → getD s 0 0 ≡ 48 → unreadable ≡ decimalOf s
       unfolding decimalOf
-      decimal-zero h e = rw (ne-eqb (length s) 0 some, le-ltb digitsMost (length s) short, lt-ltb 1 (length s) h, eq-eqb (getD s 0 0) 48 e)
+      decimal-zero h e = rw (ne-eqb (length s) 0 some, le-ltb fieldDigitsMost (length s) short, lt-ltb 1 (length s) h, eq-eqb (getD s 0 0) 48 e)
 
       pub decimal-more : 1 < length s → (getD s 0 0 ≡ 48 → ⊥) → numberFrom 0 s ≡ decimalOf s
       unfolding decimalOf
-      decimal-more h e = rw (ne-eqb (length s) 0 some, le-ltb digitsMost (length s) short, lt-ltb 1 (length s) h, ne-eqb (getD s 0 0) 48 e)
+      decimal-more h e = rw (ne-eqb (length s) 0 some, le-ltb fieldDigitsMost (length s) short, lt-ltb 1 (length s) h, ne-eqb (getD s 0 0) 48 e)
 
       pub decimal-one : length s ≤ 1 → numberFrom 0 s ≡ decimalOf s
       unfolding decimalOf
-      decimal-one h = rw (ne-eqb (length s) 0 some, le-ltb digitsMost (length s) short, le-ltb 1 (length s) h)
+      decimal-one h = rw (ne-eqb (length s) 0 some, le-ltb fieldDigitsMost (length s) short, le-ltb 1 (length s) h)
 
 -- ---- a field, by its only byte
 
 module _ (f : List ℕ) where
-  pub token-dash : length f ≡ 1 → getD f 0 0 ≡ 45 → dash ≡ tokenOf f
+  pub token-dash : length f ≡ 1 → getD f 0 0 ≡ 45 → dashNumber ≡ tokenOf f
   unfolding tokenOf
   token-dash h e = rw (eq-eqb (length f) 1 h, eq-eqb (getD f 0 0) 45 e)
 
@@ -84,27 +84,27 @@ module _ (f : List ℕ) where
 -- ---- what can be read
 
 -- digits make a number below the dash, or what is unreadable
-digits-told : (s : List ℕ) (n i : ℕ) → n < 10 ^ i → i + length s ≤ digitsMost → (numberFrom n s < dash) ⊎ (numberFrom n s ≡ unreadable)
+digits-told : (s : List ℕ) (n i : ℕ) → n < 10 ^ i → i + length s ≤ fieldDigitsMost → (numberFrom n s < dashNumber) ⊎ (numberFrom n s ≡ unreadable)
 unfolding numberFrom
 digits-told [] n i h l = inl (small n i h (omega arith))
 digits-told (d ∷ s) n i h l = by-test (ltb d 48) (ltb 57 d) refl refl (λ e f. digits-told s (n * 10 + (d - 48)) (i + 1) (grows n i (d - 48) h (omega arith)) (omega arith))
   where
-    by-test : (t u : Bool) → ltb d 48 ≡ t → ltb 57 d ≡ u → (48 ≤ d → d ≤ 57 → (numberFrom (n * 10 + (d - 48)) s < dash) ⊎ (numberFrom (n * 10 + (d - 48)) s ≡ unreadable))
-        → (cond t unreadable (cond u unreadable (numberFrom (n * 10 + (d - 48)) s)) < dash) ⊎ (cond t unreadable (cond u unreadable (numberFrom (n * 10 + (d - 48)) s)) ≡ unreadable)
+    by-test : (t u : Bool) → ltb d 48 ≡ t → ltb 57 d ≡ u → (48 ≤ d → d ≤ 57 → (numberFrom (n * 10 + (d - 48)) s < dashNumber) ⊎ (numberFrom (n * 10 + (d - 48)) s ≡ unreadable))
+        → (cond t unreadable (cond u unreadable (numberFrom (n * 10 + (d - 48)) s)) < dashNumber) ⊎ (cond t unreadable (cond u unreadable (numberFrom (n * 10 + (d - 48)) s)) ≡ unreadable)
     by-test true u p q r = inr refl
     by-test false true p q r = inr refl
     by-test false false p q r = r (ltb-false d 48 p) (ltb-false 57 d q)
 
-pub decimal-told : (s : List ℕ) → (decimalOf s < dash) ⊎ (decimalOf s ≡ unreadable)
+pub decimal-told : (s : List ℕ) → (decimalOf s < dashNumber) ⊎ (decimalOf s ≡ unreadable)
 unfolding decimalOf
-decimal-told s = by-test (eqb (length s) 0) (ltb digitsMost (length s)) (ltb 1 (length s) && eqb (getD s 0 0) 48) refl
+decimal-told s = by-test (eqb (length s) 0) (ltb fieldDigitsMost (length s)) (ltb 1 (length s) && eqb (getD s 0 0) 48) refl
   where
-    by-test : (t u v : Bool) → ltb digitsMost (length s) ≡ u
-        → (cond t unreadable (cond u unreadable (cond v unreadable (numberFrom 0 s))) < dash) ⊎ (cond t unreadable (cond u unreadable (cond v unreadable (numberFrom 0 s))) ≡ unreadable)
+    by-test : (t u v : Bool) → ltb fieldDigitsMost (length s) ≡ u
+        → (cond t unreadable (cond u unreadable (cond v unreadable (numberFrom 0 s))) < dashNumber) ⊎ (cond t unreadable (cond u unreadable (cond v unreadable (numberFrom 0 s))) ≡ unreadable)
     by-test true u v p = inr refl
     by-test false true v p = inr refl
     by-test false false true p = inr refl
-    by-test false false false p = digits-told s 0 0 (omega arith) (omega (arith, ltb-false digitsMost (length s) p))
+    by-test false false false p = digits-told s 0 0 (omega arith) (omega (arith, ltb-false fieldDigitsMost (length s) p))
 
 -- a line of n bytes reads as at most n + 1 numbers
 pub tokens-short : (s : List ℕ) → length (tokensOf s) ≤ 1 + length s

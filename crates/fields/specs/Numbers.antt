@@ -7,15 +7,15 @@ use lib.ListN.{length, getD}
 use Rattle.fields.specs.Fields.{fieldsOf}
 
 -- the most digits that a number may have
-abbrev pub digitsMost : ℕ
-digitsMost = 10
+abbrev pub fieldDigitsMost : ℕ
+fieldDigitsMost = 10
 
 -- a single '-', and a field that is neither that nor a number: above all numbers of so many digits
-abbrev pub dash : ℕ
-dash = 10 ^ digitsMost
+abbrev pub dashNumber : ℕ
+dashNumber = 10 ^ fieldDigitsMost
 
 abbrev pub unreadable : ℕ
-unreadable = 10 ^ digitsMost + 1
+unreadable = 10 ^ fieldDigitsMost + 1
 
 -- the number that digits give behind the number n; a byte that is no digit makes it unreadable
 unfoldable pub numberFrom : ℕ → List ℕ → ℕ
@@ -26,12 +26,12 @@ numberFrom n (d ∷ ds) = cond (ltb d 48) unreadable (cond (ltb 57 d) unreadable
 unfoldable pub decimalOf : List ℕ → ℕ
 decimalOf s =
     cond (eqb (length s) 0) unreadable
-    (cond (ltb digitsMost (length s)) unreadable
+    (cond (ltb fieldDigitsMost (length s)) unreadable
     (cond (ltb 1 (length s) && eqb (getD s 0 0) 48) unreadable (numberFrom 0 s)))
 
 -- what a field reads as
 unfoldable pub tokenOf : List ℕ → ℕ
-tokenOf f = cond (eqb (length f) 1 && eqb (getD f 0 0) 45) dash (decimalOf f)
+tokenOf f = cond (eqb (length f) 1 && eqb (getD f 0 0) 45) dashNumber (decimalOf f)
 
 -- what the fields of a line read as
 unfoldable pub tokensOf : List ℕ → List ℕ

@@ -9,7 +9,7 @@ ghost use lib.ListN.{length, drop, set};
 ghost use Rattle.text.specs.Filled.{filled, fill};
 ghost use Rattle.text.specs.Lines.{until};
 ghost use Rattle.fields.specs.Fields.{tab};
-ghost use Rattle.fields.specs.Numbers.{decimalOf, digitsMost, numberFrom, tokenOf, tokensOf};
+ghost use Rattle.fields.specs.Numbers.{decimalOf, fieldDigitsMost, numberFrom, tokenOf, tokensOf};
 
 // The byte between two fields.
 pub const TAB: u8 = b'\t';
@@ -42,7 +42,7 @@ fn wide(b: u8) -> u64
 
 // The number that digits make. More of them than a number may have would not fit.
 fn digits(s: &[u8]) -> u64
-    requires { ⌜ length (now s) ≤ digitsMost ⌝ }
+    requires { ⌜ length (now s) ≤ fieldDigitsMost ⌝ }
     ensures { λ r. ⌜ r ≡ numberFrom 0 (now (s .entry)) ⌝ }
 {
     let mut n: u64 = 0;

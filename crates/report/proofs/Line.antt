@@ -9,7 +9,7 @@ use Rattle.print.specs.Print.{dash, hexText}
 use Rattle.print.proofs.Hex.{length-hex}
 use Rattle.print.proofs.Numbers.{length-number}
 use Rattle.channel.specs.declared.state.Notes.{Notes}
-use Rattle.report.specs.Report.{frameText, headMost, headText, lineMost, lineText}
+use Rattle.report.specs.Report.{frameText, headMost, headText, reportMost, lineText}
 use Rattle.notes_text.proofs.Notes.{length-notes}
 
 pub length-head : (n answer state : ℕ) → length (headText n answer state) ≤ headMost
@@ -25,6 +25,6 @@ length-frame frame = by-test (eqb (length frame) 0)
     by-test false = omega (arith, length-hex frame)
 
 -- the line, by which callers count its room
-pub length-line : (n answer state : ℕ) (notes : Notes) (frame : List ℕ) → length (lineText n answer state notes frame) ≤ lineMost + 2 * length frame
+pub length-line : (n answer state : ℕ) (notes : Notes) (frame : List ℕ) → length (lineText n answer state notes frame) ≤ reportMost + 2 * length frame
 unfolding lineText
 length-line n answer state notes frame = simp length-append (omega (arith, length-head n answer state, length-notes notes, length-frame frame))

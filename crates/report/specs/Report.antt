@@ -40,5 +40,5 @@ lineText n answer state notes frame =
 abbrev pub headMost : ℕ
 headMost = digitsMost + 5
 
-abbrev pub lineMost : ℕ
-lineMost = headMost + notesMost + 3
+abbrev pub reportMost : ℕ
+reportMost = headMost + notesMost + 3

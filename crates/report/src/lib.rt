@@ -9,7 +9,7 @@ ghost use mathlib.Core.Path.{_≡_};
 ghost use Prim.Native.Nat.{_+_, _*_, _≤_};
 ghost use lib.ListN.{length};
 ghost use Rattle.print.specs.Print.{Wrote};
-ghost use Rattle.report.specs.Report.{frameText, headMost, headText, letterOf, lineMost, lineText};
+ghost use Rattle.report.specs.Report.{frameText, headMost, headText, letterOf, reportMost, lineText};
 
 // The letter of a state.
 pub fn letter(s: State) -> u8
@@ -61,7 +61,7 @@ pub fn put_line(
     notes: Notes,
     frame: &[u8],
 ) -> usize
-    requires { ⌜ at + lineMost + 2 * length (now frame) ≤ length (now out) ⌝ }
+    requires { ⌜ at + reportMost + 2 * length (now frame) ≤ length (now out) ⌝ }
     ensures { λ r. ⌜ Wrote (now (out .entry)) at (lineText n answer state notes (now (frame .entry))) (now (out .exit)) r ⌝ }
 {
     let a = put_head(out, at, n, answer, state);

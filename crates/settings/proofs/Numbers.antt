@@ -7,7 +7,7 @@ use native.Mathlib.Numerals.{add-one}
 use lib.ListN.{length, drop, getD, drop-of-length-le}
 use lib.Seq.{drop-cons}
 use borrow.Author.Tests.{lt-ltb, le-ltb}
-use Rattle.fields.specs.Numbers.{dash}
+use Rattle.fields.specs.Numbers.{dashNumber}
 use Rattle.settings.specs.Settings.{allNumbers}
 
 module _ (s : List ℕ) (i : ℕ) where
@@ -15,10 +15,10 @@ module _ (s : List ℕ) (i : ℕ) where
   unfolding allNumbers
   numbers-end h = rw (drop-of-length-le s h)
 
-  pub numbers-none : i < length s → dash ≤ getD s i 0 → allNumbers (drop i s) ≡ false
+  pub numbers-none : i < length s → dashNumber ≤ getD s i 0 → allNumbers (drop i s) ≡ false
   unfolding allNumbers
   numbers-none h e = rw (drop-cons s i 0, le-ltb _ _ e)
 
-  pub numbers-more : i < length s → getD s i 0 < dash → allNumbers (drop i s) ≡ allNumbers (drop (i + 1) s)
+  pub numbers-more : i < length s → getD s i 0 < dashNumber → allNumbers (drop i s) ≡ allNumbers (drop (i + 1) s)
   unfolding allNumbers
   numbers-more h e = rw (add-one, drop-cons s i 0, lt-ltb _ _ e)

@@ -8,13 +8,13 @@ use lib.Seq.{sets}
 use Rattle.text.specs.Lines.{until}
 use Rattle.text.specs.Blocks.{lineMost}
 use Rattle.fields.specs.Fields.{tab}
-use Rattle.fields.specs.Numbers.{dash, tokensOf}
+use Rattle.fields.specs.Numbers.{dashNumber, tokensOf}
 use Rattle.names.specs.Names.{callOf}
 
 -- ---- what a field may read as
 
 abbrev pub isNumber : ℕ → Bool
-isNumber x = ltb x dash
+isNumber x = ltb x dashNumber
 
 abbrev pub isFlag : ℕ → Bool
 isFlag x = ltb x 2

@@ -17,13 +17,21 @@ use states::Note;
 use states::Traffic;
 ghost use mathlib.Core.Path.{_≡_};
 ghost use Rattle.channel.specs.Channel.{ticked, tickedBy};
-ghost use Rattle.channel.specs.Moved.{told};
+ghost use Rattle.channel.specs.Moved.{tickEffect};
 ghost use Rattle.channel.specs.Parts.{channelOf, replyOf};
 ghost use Rattle.soundness.specs.Sound.{soundOf};
 
 // The effect of a tick that is carried out.
-fn told(m: Mode, x: Traffic, first: Note, second: Note, ei: bool, er: bool, sent: bool) -> Effect
-    ensures { λ r. ⌜ r ≡ told m x first second ei er sent ⌝ }
+fn tick_effect(
+    m: Mode,
+    x: Traffic,
+    first: Note,
+    second: Note,
+    ei: bool,
+    er: bool,
+    sent: bool,
+) -> Effect
+    ensures { λ r. ⌜ r ≡ tickEffect m x first second ei er sent ⌝ }
 {
     Effect {
         mode: m,
@@ -76,10 +84,10 @@ pub fn main_function_in_place<'a>(
         if sent {
             let ei = frames::load_sent(c, t.reset, requests, eira);
             frames::send(c, x, requests, user, frame);
-            return told(after, y, first, second, ei, er, true);
+            return tick_effect(after, y, first, second, ei, er, true);
         }
         let ei = frames::count_down(eira);
-        return told(after, y, first, second, ei, er, false);
+        return tick_effect(after, y, first, second, ei, er, false);
     }
     channel::unmoved(m, old, a)
 }

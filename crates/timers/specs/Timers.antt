@@ -28,8 +28,8 @@ unfoldable pub vectorsDiffer : List ℕ → List ℕ → Bool
 vectorsDiffer a b = anyBelow (λ k. xor (eqb (getD a k 0) 0) (eqb (getD b k 0) 0)) (length a)
 
 -- a timer's bit, and the byte of the vector whose first bit is timer `at`
-abbrev pub digitOf : ℕ → ℕ
-digitOf t = cond (eqb t 0) 0 1
+abbrev pub runningBit : ℕ → ℕ
+runningBit t = cond (eqb t 0) 0 1
 
 unfoldable pub vectorByte : List ℕ → ℕ → ℕ
-vectorByte ts at = sumBelow (λ i. 2 ^ i * digitOf (getD ts (at + i) 0)) 8
+vectorByte ts at = sumBelow (λ i. 2 ^ i * runningBit (getD ts (at + i) 0)) 8

@@ -6,7 +6,7 @@ ghost use mathlib.Core.Path.{_≡_};
 ghost use mathlib.Core.Bool.{_&&_};
 ghost use Prim.Native.Nat.{_*_, _^_, _≤_, _<_, min};
 ghost use lib.ListN.{length, getD};
-ghost use Rattle.timers.specs.Timers.{countedDown, digitOf, loadedWhere, vectorByte, vectorsDiffer};
+ghost use Rattle.timers.specs.Timers.{countedDown, runningBit, loadedWhere, vectorByte, vectorsDiffer};
 ghost use Rattle.timers.specs.Tops.{allUnder, topsOf};
 
 // Every running timer one down. Answers whether the vector changed by it.
@@ -108,7 +108,7 @@ pub fn vectors_differ(a: &[u16], b: &[u16]) -> bool
 
 // A timer's bit: 1 while it is not 0.
 fn digit(t: u16) -> u8
-    ensures { λ r. ⌜ (r ≡ digitOf t) × (r ≤ 1) ⌝ }
+    ensures { λ r. ⌜ (r ≡ runningBit t) × (r ≤ 1) ⌝ }
 {
     if t == 0 { 0 } else { 1 }
 }

@@ -13,7 +13,7 @@ use Rattle.runs.specs.declared.Phase.the-variants.{First, Second, Running, Ende
 use Rattle.runs.specs.declared.Run.{Run}
 use Rattle.runs.specs.Runs.{printedMost}
 use Rattle.runs.proofs.Laws.{either-le}
-use Rattle.trace_line.specs.TraceLine.{behind, ending, endingIn, following, isRunning, lineIn, room, secondLine, textOf}
+use Rattle.trace_line.specs.TraceLine.{andThen, ending, endingIn, following, isRunning, lineIn, room, secondLine, textOf}
 
 following-le : (run : Run) (l : List ℕ) → length (following run l .text) ≤ printedMost + 2 * frameMost
 unfolding following
@@ -23,7 +23,7 @@ second-le : (run : Run) (l : List ℕ) → length (secondLine run l .text) ≤ r
 unfolding secondLine
 second-le run l =
     let b = begun (run .channel .own .config) (run .next) in
-    either-le (isPartial l) (partialLine run l) (behind b (following (b .run) l)) (omega (arith, partial-le run l))
+    either-le (isPartial l) (partialLine run l) (andThen b (following (b .run) l)) (omega (arith, partial-le run l))
     (rw (length-append (b .text) (following (b .run) l .text)) (omega (arith, begun-length (run .channel .own .config) (run .next), following-le (b .run) l)))
 
 -- what a line prints has room

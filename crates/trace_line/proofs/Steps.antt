@@ -9,9 +9,9 @@ use Rattle.runs.specs.declared.Phase.the-variants.{First, Second, Running, Ende
 use Rattle.runs.specs.declared.Run.{Run}
 use Rattle.runs.specs.declared.Step.{Step}
 use Rattle.runs.specs.Runs.{Gives, Outcome}
-use Rattle.trace_line.specs.TraceLine.{behind, isRunning, lineIn, lineOf}
+use Rattle.trace_line.specs.TraceLine.{andThen, isRunning, lineIn, lineOf}
 
-pub gives-then : {o p : Outcome} {l m n : List ℕ} {i : ℕ} {s t : Step} → Gives o l i m s → Gives p m (s .at) n t → Gives (behind o p) l i n t
+pub gives-then : {o p : Outcome} {l m n : List ℕ} {i : ℕ} {s t : Step} → Gives o l i m s → Gives p m (s .at) n t → Gives (andThen o p) l i n t
 gives-then v w = record { run = w .run; text = then (v .text) (w .text) }
 
 -- a line in the phase of its run

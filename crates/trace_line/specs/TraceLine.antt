@@ -13,8 +13,8 @@ use Rattle.runs.specs.Runs.{Outcome, outcome, passed, printedMost}
 -- ---- line 2
 
 -- an outcome behind another: its run, and both texts
-abbrev pub behind : Outcome → Outcome → Outcome
-behind o p = outcome (p .run) (o .text ++ p .text)
+abbrev pub andThen : Outcome → Outcome → Outcome
+andThen o p = outcome (p .run) (o .text ++ p .text)
 
 abbrev pub isRunning : Phase → Bool
 isRunning First = false
@@ -30,7 +30,7 @@ following run l = cond (isRunning (run .phase)) (laterLine run l) (outcome (pass
 unfoldable pub secondLine : Run → List ℕ → Outcome
 secondLine run l =
     cond (isPartial l) (partialLine run l)
-    (behind (begun (run .channel .own .config) (run .next)) (following (begun (run .channel .own .config) (run .next) .run) l))
+    (andThen (begun (run .channel .own .config) (run .next)) (following (begun (run .channel .own .config) (run .next) .run) l))
 
 -- ---- every line
 

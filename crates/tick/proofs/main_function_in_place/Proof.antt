@@ -40,7 +40,7 @@ sending c =
     rw (c .before .both .ensures, c .before .before .is-due .ensures, c .before .before .before .before .before .traffic-by .ensures, c .before .before .before .before .before .before .setup-of .ensures, c .before .before .before .before .before .before .before .mode-by .ensures, c .before .before .before .before .before .before .before .before .before .before .before .before .before .before .rule-of .ensures)
 
 -- the frame of a tick that sends
-framing-sent : (c : tie.After-told) → let s = c .before .before .before .before .before .before .before .before .before .before .before .before .before .before .before .before .before .before .before .before .before .before .before .before .before .before in
+framing-sent : (c : tie.After-tick-effect) → let s = c .before .before .before .before .before .before .before .before .before .before .before .before .before .before .before .before .before .before .before .before .before .before .before .before .before .before in
     c .before .before .before .send .last .1 .1 .1 .1 .0
     ≡ framed (s .args .c) (trafficMoved (entry s .own) (tick s)) (s .args .requests .now) (s .args .user .now) (s .args .frame .now)
 unfolding trafficMoved modeAfter ruleFor againFor
@@ -55,7 +55,7 @@ returns c =
     let a = s .args in
     tick-sent (entry s) (a .taken) (a .frame .now) (done f) (sym (sending f) ∙ c .before .before .before .before .before .before .before .if2 .taken)
     (rw (
-      c .told .ensures,
+      c .tick-effect .ensures,
       c .before .before .before .before .before .load-sent .ensures .1,
       c .before .before .before .before .before .before .before .before .count-down .ensures .1,
       f .framing .ensures,
@@ -77,7 +77,7 @@ returns-2 c =
     let a = s .args in
     tick-unsent (entry s) (a .taken) (a .frame .now) (done f) (sym (sending f) ∙ c .before .before .before .if2 .left)
     (rw (
-      c .told2 .ensures,
+      c .tick-effect2 .ensures,
       c .before .count-down2 .ensures .1,
       c .before .before .before .before .count-down .ensures .1,
       f .framing .ensures,
