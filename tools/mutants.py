@@ -324,11 +324,18 @@ class Finder:
         plain = [name for name, carried in enum or [] if not carried]
         return [f"{type_}::{name}" for name in dict.fromkeys(plain[:1] + plain[-1:])]
 
+    def constant_at(self, first, behind):
+        """The number of the constant that these tokens name; None for all else."""
+        named = self.look_up(self.sources.constants, self.path_at(behind - 1)) if self.code[first].kind == "name" else None
+        value = named.code[named.first : named.behind] if named else []
+        return value[0].text if len(value) == 1 else None
+
     def fix(self, parts, types, before=""):
         """Puts fixed values, or parts of a slice, for each argument or field; `before` names a field that has no colon."""
         for (first, behind), type_ in zip(parts, types):
             for value in self.fixed_values(type_) if first < behind else []:
-                self.add("fixed", first, behind, before + value)
+                if value != self.constant_at(first, behind):
+                    self.add("fixed", first, behind, before + value)
             if behind == first + 1 and self.code[first].kind == "name" and type_ and SLICE.fullmatch(type_):
                 sign = "&mut " if type_.startswith("mut") else "&"
                 for part in "[..0]", "[1..]":
