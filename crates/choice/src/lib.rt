@@ -1,7 +1,7 @@
 // Choices as functions: a rule or a loop body that calls one has no branch of its own, so that its proof is one
 // line and a loop over a table becomes vector code.
 //
-// Promises: each function is the library's operation of the same meaning.
+// Promises: each function is the library's operation of the same meaning. Leaves to others: what is chosen, and why.
 ghost use mathlib.Core.Path.{_≡_};
 ghost use lib.Dec.{ltb};
 ghost use mathlib.Core.Bool.{true, false, cond, not, _&&_, _||_, xor};

@@ -1,5 +1,8 @@
 // For tests alone: what the C host does not export, on numbers and byte strings, so that it can be compared with an
 // independent implementation. Nothing of the product stands on this crate.
+//
+// Promises: nothing of its results, only that each function ends and goes without an error. Leaves to others: what a C host
+// is given (`cannm_c`), and the calls themselves.
 use config::Config;
 use config::Layout;
 use config::PDU_MOST;
