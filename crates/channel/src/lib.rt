@@ -23,7 +23,6 @@ use states::Note;
 use states::State;
 use states::Traffic;
 ghost use mathlib.Core.Path.{_≡_};
-ghost use mathlib.Core.Bool.{false, true};
 ghost use Rattle.channel.specs.Channel.{fresh, freshMode, freshTraffic, initialised, refused, zero, zeroConfig, zeroTicks};
 ghost use Rattle.channel.specs.Moved.{movedBy, movedTo};
 ghost use Rattle.channel.specs.Parts.{channelOf, effectOf, replyOf, unmoved};

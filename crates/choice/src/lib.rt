@@ -4,7 +4,7 @@
 // Promises: each function is the library's operation of the same meaning. Leaves to others: what is chosen, and why.
 ghost use mathlib.Core.Path.{_≡_};
 ghost use lib.Dec.{ltb};
-ghost use mathlib.Core.Bool.{true, false, cond, not, _&&_, _||_, xor};
+ghost use mathlib.Core.Bool.{cond, not, _&&_, _||_, xor};
 
 pub fn both(a: bool, b: bool) -> bool
     ensures { λ r. ⌜ r ≡ (a && b) ⌝ }

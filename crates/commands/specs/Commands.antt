@@ -11,7 +11,6 @@ use Rattle.text.specs.Blocks.{lineMost}
 use Rattle.fields.specs.Fields.{tab}
 use Rattle.hex.specs.Hex.{hexPairs}
 use Rattle.names.specs.Names.{callOf}
-use Rattle.commands.specs.declared.Command.{Command}
 use Rattle.commands.specs.declared.Command.the-variants.{
   NetworkRequest,
   NetworkRelease,

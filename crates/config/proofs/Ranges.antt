@@ -1,6 +1,6 @@
 -- Laws of the PDU's byte ranges, over any l, h, f and n. Assumes nothing.
 use mathlib.Core.Bool.{Bool, true, false}
-use Prim.Native.Nat.{ℕ, _-_, _≤_}
+use Prim.Native.Nat.{ℕ, _≤_}
 use native.Mathlib.Omega.{arith}
 use lib.Dec.{eqb}
 use Rattle.config.specs.Ranges.{off, bytesOf}

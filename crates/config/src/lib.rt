@@ -3,11 +3,9 @@
 // Promises: whether a value lies within its bounds, and where header and user data stand, for every configuration whatever
 // its numbers. Leaves to others: the eight rules (`rules`), what the bytes mean (`layout`) and what the times do (`channel`).
 ghost use mathlib.Core.Path.{_≡_};
-ghost use mathlib.Core.Bool.{false};
-ghost use Prim.Native.Nat.{_+_, _-_, _<_};
-ghost use lib.Dec.{leb, eqb};
+ghost use Prim.Native.Nat.{_-_};
 ghost use Rattle.config.specs.Bounds.{within};
-ghost use Rattle.config.specs.Ranges.{off, bytesOf, headerLength, userStartOf, userLengthOf};
+ghost use Rattle.config.specs.Ranges.{bytesOf, headerLength, userStartOf, userLengthOf};
 
 // ---- sizes
 

@@ -4,7 +4,6 @@
 // (`transitions`), and what a call is refused with (`refusals`).
 use states::State;
 ghost use mathlib.Core.Path.{_≡_};
-ghost use Prim.Native.Nat.{_+_, _*_};
 ghost use mathlib.Core.Bool.{cond};
 ghost use Rattle.decision.specs.declared.Rule.the-variants.{Keep};
 ghost use Rattle.decision.specs.Decision.{isNotHere, ruleAt, ruleOf};

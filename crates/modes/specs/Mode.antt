@@ -1,6 +1,6 @@
 -- What each transition rule does to the mode: the state with its flags, and the NM, wait and repeat timers. Assumes nothing.
 use Prim.Native.Nat.{ℕ, _-_}
-use mathlib.Core.Bool.{Bool, true, false, cond}
+use mathlib.Core.Bool.{Bool, true, cond}
 use lib.Dec.{leb, eqb}
 use Rattle.config.specs.declared.Ticks.{Ticks}
 use Rattle.states.specs.declared.State.{State}

@@ -6,7 +6,6 @@ use config::Ticks;
 use states::Mode;
 use states::State;
 ghost use mathlib.Core.Path.{_≡_};
-ghost use mathlib.Core.Bool.{true, false};
 ghost use Rattle.modes.specs.Mode.{
   enabled,
   enterNetwork,

@@ -4,7 +4,6 @@
 // which notes there are (`channel`), the line around them (`report`), and that the buffer has room.
 use channel::state::Notes;
 use states::Note;
-ghost use mathlib.Core.Path.{_≡_};
 ghost use mathlib.Core.List.{[], _∷_};
 ghost use Prim.Native.Nat.{_+_, _≤_, _<_};
 ghost use lib.Dec.{eqb};

@@ -12,7 +12,6 @@ use lib.Seq.{sets, length-sets, getD-set-same, getD-set-other, getD-take, getD-d
 use borrow.Author.Tests.{eqb-true, leb-true, leb-false, eq-eqb, le-leb}
 use Rattle.slices.proofs.Bytes.{at-inside, at-outside, part-is}
 use Rattle.choice.proofs.Tests.{and-left, and-right}
-use Rattle.answers.specs.declared.Answer.{Answer}
 use Rattle.answers.specs.declared.Answer.the-variants.{Done, Rule, Length}
 use Rattle.config.specs.declared.Config.{Config}
 use Rattle.config.specs.Ranges.{off, headerLength, userStartOf, userLengthOf}

@@ -1,8 +1,8 @@
 -- The mode alone over whole lists of calls: it stays in step with the summary, and Bus-Sleep is entered in exactly the due ticks.
 -- Assumes nothing.
-use Prim.Native.Nat.{ℕ, zero, suc, _+_, _-_, _<_}
+use Prim.Native.Nat.{ℕ, zero, suc, _+_, _<_}
 use mathlib.Core.Path.{_≡_, refl, sym, ap}
-use mathlib.Core.Bool.{Bool, true, false, cond, not}
+use mathlib.Core.Bool.{Bool, true, false, cond}
 use mathlib.Core.List.{List, [], _∷_}
 use mathlib.Core.Logic.{_↔_}
 use native.Mathlib.Omega.{arith}
@@ -27,11 +27,9 @@ use Rattle.decision.specs.Decision.{
   status,
   mainFunction,
 }
-use Rattle.modes.specs.Mode.{mode}
 use Rattle.refusals.specs.Refusals.{refusal, refusedPassive, refusedPnOff, refusedState, refusedLength, firstOf, isDone}
 use Rattle.channel.specs.Channel.{freshMode, isTick, modeAfter}
-use Rattle.sleep.specs.Summary.{Since, none, ago, Summary, summary, blank, networkState, shown, raised, keepsAwake, sinceAfter, sendingAfter, turned, summarised, history}
-use Rattle.sleep.specs.Quiet.{answered}
+use Rattle.sleep.specs.Summary.{Since, none, ago, Summary, blank, networkState, shown, raised, keepsAwake, sinceAfter, sendingAfter, turned, summarised, history}
 use Rattle.sleep.specs.Sleep.{Due}
 use Rattle.sleep.proofs.Simulation.{Fit, Long, Together, asleep, waiting, live, held, shows, keep, clash}
 

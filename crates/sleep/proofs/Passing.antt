@@ -13,7 +13,7 @@ use Rattle.config.specs.declared.Config.{Config}
 use Rattle.config.specs.declared.Ticks.{Ticks}
 use Rattle.config.specs.Bounds.{cycleRow, fastRow, immediateRow, nodeRow, offsetRow, remoteRow, repeatRow, resetRow, timeoutRow, waitRow, within}
 use Rattle.rules.specs.Rules.{inTicks, rule1, rule2, rule3, rule4, ticksFor, timesWithin}
-use Rattle.rules.proofs.Passes.{Passes, passes}
+use Rattle.rules.proofs.Passes.{Passes}
 use Rattle.sleep.proofs.Simulation.{Fit}
 
 -- a time of at least a millisecond takes at least a tick

@@ -1,6 +1,6 @@
 -- The whole channel: every state reached is sound, so that answer 1 is never given, and its mode runs as the mode alone.
 -- Assumes nothing.
-use Prim.Native.Nat.{ℕ, zero, suc, _-_}
+use Prim.Native.Nat.{ℕ, zero, suc}
 use mathlib.Core.Path.{_≡_, refl, sym, _∙_}
 use mathlib.Core.Bool.{Bool, true, false, cond, not, _&&_}
 use mathlib.Core.List.{List}
@@ -15,7 +15,6 @@ use Rattle.config.specs.declared.Ticks.{Ticks}
 use Rattle.rules.specs.Rules.{firstBroken, ticksFor}
 use Rattle.rules.proofs.Passes.{passes}
 use Rattle.filter.specs.Filter.{informs}
-use Rattle.states.specs.declared.State.{State}
 use Rattle.states.specs.declared.Mode.{Mode}
 use Rattle.states.specs.declared.Traffic.{Traffic}
 use Rattle.traffic.specs.declared.Setup.{Setup}
@@ -46,7 +45,6 @@ use Rattle.channel.specs.declared.state.Own.{Own}
 use Rattle.channel.specs.declared.state.Channel.{Channel}
 use Rattle.channel.specs.Channel.{answerOf, carriedOut, eiraAfter, eraAfter, heardBy, isTaken, isTick, modeAfter, ownAfter, refused, replied, sends, sound, trafficAfter, trafficMoved}
 use Rattle.sleep.specs.Summary.{Summary, requestedAfter, sendingAfter, turned, summarised}
-use Rattle.sleep.specs.Sleep.{reached}
 use Rattle.sleep.proofs.Simulation.{Fit, Together, asleep, waiting, live, held, clash}
 use Rattle.sleep.proofs.Entering as entering
 use Rattle.sleep.proofs.Entering.{modeStep, cleared, done, moved}

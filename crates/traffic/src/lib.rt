@@ -9,7 +9,6 @@ use states::Mode;
 use states::State;
 use states::Traffic;
 ghost use mathlib.Core.Path.{_≡_};
-ghost use Rattle.states.specs.State.{transmits};
 ghost use Rattle.traffic.specs.Traffic.{
   firstMessage,
   heardInNormal,
