@@ -336,7 +336,8 @@ class Finder:
             for value in self.fixed_values(type_) if first < behind else []:
                 if value != self.constant_at(first, behind):
                     self.add("fixed", first, behind, before + value)
-            if behind == first + 1 and self.code[first].kind == "name" and type_ and SLICE.fullmatch(type_):
+            local = self.types.get(self.code[first].text) if behind == first + 1 else None
+            if local and type_ and SLICE.fullmatch(local) and SLICE.fullmatch(type_):
                 sign = "&mut " if type_.startswith("mut") else "&"
                 for part in "[..0]", "[1..]":
                     self.add("part", first, behind, before + sign + self.code[first].text + part)
