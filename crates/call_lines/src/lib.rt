@@ -24,10 +24,10 @@ pub fn running(run: Run, text: &[u8], from: usize, out: &mut [u8], begin: usize)
 {
     let c = run.channel.own.config;
     let t = run.channel.own.ticks;
-    let passes = soundness::configured(c, t);
+    let passes = kept_ticks::configured(c, t);
     let setup = traffic::setup_of(c, t);
     let mut tops = [0u16; PNC_MOST];
-    soundness::put_tops(c, t, &mut tops);
+    pn_limits::put_tops(c, t, &mut tops);
     let mut m = run.channel.own.mode;
     let mut x = run.channel.own.traffic;
     let mut user = run.channel.own.user;

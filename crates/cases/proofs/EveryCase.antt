@@ -38,7 +38,9 @@ use Rattle.transitions.specs.Transitions.{modeBy, trafficBy}
 use Rattle.traffic.specs.Traffic.{inNormal, inReady, inRepeat, setupOf, toRepeat}
 use Rattle.sending.specs.Sending.{counts, framing, isDue}
 use Rattle.notes.specs.Notes.{firstBy, secondBy}
-use Rattle.soundness.specs.Sound.{configured, modeSound, passiveSound, scalarsSound, trafficSound}
+use Rattle.kept_ticks.specs.KeptTicks.{configured}
+use Rattle.conditions.specs.Conditions.{modeSound, passiveSound, trafficSound}
+use Rattle.soundness.specs.Sound.{scalarsSound}
 use Rattle.frames.specs.Frames.{accepted, asksRepeat, loadedBy, sentLoaded}
 use Rattle.refusals.specs.Refusals.{refusal}
 use Rattle.channel.specs.Channel.{

@@ -12,7 +12,7 @@ use Rattle.states.specs.declared.Mode.{Mode}
 use Rattle.states.specs.declared.Traffic.{Traffic}
 use Rattle.traffic.specs.declared.Setup.{Setup}
 use Rattle.states.specs.State.{inNetwork, isNormal, isRepeat, settled, transmits}
-use Rattle.soundness.specs.Sound.{larger, only, runs, trafficSound}
+use Rattle.conditions.specs.Conditions.{larger, only, runs, trafficSound}
 use Rattle.traffic.specs.Traffic.{firstMessage, heardInNormal, heardInReady, inNormal, inReady, inRepeat, resumed, toNormal, toReady, toRepeat, toRepeatActive, toRepeatAsked}
 use Rattle.sending.specs.Sending.{afterMissed, afterSent, counts, framing}
 use Rattle.sleep.proofs.Passing.{Tuned}

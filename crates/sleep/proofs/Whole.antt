@@ -38,7 +38,9 @@ use Rattle.decision.specs.Decision.{
 use Rattle.modes.specs.Mode.{mode}
 use Rattle.traffic.specs.Traffic.{setupOf}
 use Rattle.sending.specs.Sending.{framing}
-use Rattle.soundness.specs.Sound.{configured, modeSound, only, passiveSound, sameTicks, scalarsSound, timersSound}
+use Rattle.kept_ticks.specs.KeptTicks.{configured, sameTicks}
+use Rattle.conditions.specs.Conditions.{modeSound, only, passiveSound}
+use Rattle.soundness.specs.Sound.{scalarsSound, timersSound}
 use Rattle.frames.specs.Frames.{accepted, cbvOf, loadedBy, pnOf, sentLoaded}
 use Rattle.refusals.specs.Refusals.{refusal, refusedPassive, isDone}
 use Rattle.channel.specs.declared.state.Own.{Own}

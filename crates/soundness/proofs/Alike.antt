@@ -10,7 +10,8 @@ use Rattle.config.specs.declared.Ticks.{Ticks}
 use Rattle.states.specs.declared.Mode.{Mode}
 use Rattle.states.specs.declared.Traffic.{Traffic}
 use Rattle.traffic.specs.Traffic.{setupOf}
-use Rattle.soundness.specs.Sound.{configured, scalarsSound, soundOf}
+use Rattle.kept_ticks.specs.KeptTicks.{configured}
+use Rattle.soundness.specs.Sound.{scalarsSound, soundOf}
 use Rattle.soundness.specs.Kept.{soundBy}
 
 pub sound-alike : (c : Config) (t : Ticks) (m : Mode) (x : Traffic) (xs era eira : List ℕ) → length era ≤ length xs → length eira ≤ length xs
