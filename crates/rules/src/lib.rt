@@ -58,14 +58,14 @@ pub fn ticks_for(c: Config) -> Ticks
 fn times_within(t: Times) -> bool
     ensures { λ r. ⌜ r ≡ timesWithin t ⌝ }
 {
-    let mut ok = config::in_bounds(config::TIMEOUT, t.timeout);
-    ok = choice::both(ok, config::in_bounds(config::WAIT, t.wait));
-    ok = choice::both(ok, config::in_bounds(config::REPEAT, t.repeat));
-    ok = choice::both(ok, config::in_bounds(config::CYCLE, t.cycle));
-    ok = choice::both(ok, config::in_bounds(config::OFFSET, t.offset));
-    ok = choice::both(ok, config::in_bounds(config::FAST, t.fast));
-    ok = choice::both(ok, config::in_bounds(config::REMOTE, t.remote));
-    choice::both(ok, config::in_bounds(config::RESET, t.reset))
+    config::in_bounds(config::TIMEOUT, t.timeout)
+        & config::in_bounds(config::WAIT, t.wait)
+        & config::in_bounds(config::REPEAT, t.repeat)
+        & config::in_bounds(config::CYCLE, t.cycle)
+        & config::in_bounds(config::OFFSET, t.offset)
+        & config::in_bounds(config::FAST, t.fast)
+        & config::in_bounds(config::REMOTE, t.remote)
+        & config::in_bounds(config::RESET, t.reset)
 }
 
 fn period_rule(c: Config) -> bool
@@ -77,11 +77,9 @@ fn period_rule(c: Config) -> bool
 fn bounds_rule(c: Config) -> bool
     ensures { λ r. ⌜ r ≡ rule2 c ⌝ }
 {
-    let ok = choice::both(
-        times_within(c.times),
-        config::in_bounds(config::IMMEDIATE, c.immediate),
-    );
-    choice::both(ok, config::in_bounds(config::NODE, c.node))
+    times_within(c.times)
+        & config::in_bounds(config::IMMEDIATE, c.immediate)
+        & config::in_bounds(config::NODE, c.node)
 }
 
 fn offset_rule(t: Ticks) -> bool
@@ -93,7 +91,7 @@ fn offset_rule(t: Ticks) -> bool
 fn fast_rule(c: Config, t: Ticks) -> bool
     ensures { λ r. ⌜ r ≡ rule4 c t ⌝ }
 {
-    choice::either(c.immediate == 0, 1 <= t.fast)
+    (c.immediate == 0) | (1 <= t.fast)
 }
 
 fn timeout_rule(t: Ticks) -> bool
@@ -111,26 +109,24 @@ fn length_rule(l: Layout) -> bool
 fn is_placed(position: u64) -> bool
     ensures { λ r. ⌜ r ≡ placed position ⌝ }
 {
-    choice::either(
-        choice::either(position == config::OFF, position == 0),
-        position == 1,
-    )
+    (position == config::OFF) | (position == 0) | (position == 1)
 }
 
 fn is_behind(position: u64, other: u64) -> bool
     ensures { λ r. ⌜ r ≡ behind position other ⌝ }
 {
-    choice::either(position != 1, other == 0)
+    (position != 1) | (other == 0)
 }
 
 fn header_rule(l: Layout) -> bool
     ensures { λ r. ⌜ r ≡ rule7 l ⌝ }
 {
-    let mut ok = choice::both(is_placed(l.sni), is_placed(l.cbv));
-    ok = choice::both(ok, choice::either(l.sni == config::OFF, l.sni != l.cbv));
-    ok = choice::both(ok, is_behind(l.sni, l.cbv));
-    ok = choice::both(ok, is_behind(l.cbv, l.sni));
-    choice::both(ok, config::header_length(l) <= l.length)
+    is_placed(l.sni)
+        & is_placed(l.cbv)
+        & ((l.sni == config::OFF) | (l.sni != l.cbv))
+        & is_behind(l.sni, l.cbv)
+        & is_behind(l.cbv, l.sni)
+        & (config::header_length(l) <= l.length)
 }
 
 // Does a range of `n` bytes from `f` on end within `l` bytes? No sum, so that no number is too large.
@@ -157,39 +153,32 @@ fn pn_range_rule(c: Config) -> bool
     ensures { λ r. ⌜ r ≡ pnRange c ⌝ }
 {
     let h = config::header_length(c.layout);
-    let mut ok = choice::both(1 <= c.pn.length, h <= c.pn.start);
-    ok = choice::both(ok, ends_within(c.pn.start, c.pn.length, c.layout.length));
-    choice::both(
-        ok,
-        choice::either(
-            c.pn.start == h,
-            ends_at(c.pn.start, c.pn.length, c.layout.length),
-        ),
-    )
+    (1 <= c.pn.length)
+        & (h <= c.pn.start)
+        & ends_within(c.pn.start, c.pn.length, c.layout.length)
+        & ((c.pn.start == h) | ends_at(c.pn.start, c.pn.length, c.layout.length))
 }
 
 fn pn_time_rule(t: Ticks) -> bool
     ensures { λ r. ⌜ r ≡ pnTime t ⌝ }
 {
-    choice::both(t.cycle < t.reset, t.reset < t.timeout)
+    (t.cycle < t.reset) & (t.reset < t.timeout)
 }
 
 fn pn_absent_rule(c: Config) -> bool
     ensures { λ r. ⌜ r ≡ pnAbsent c ⌝ }
 {
-    choice::both(
-        choice::both(c.pn.start == 0, c.pn.length == 0),
-        c.times.reset == 0,
-    )
+    (c.pn.start == 0) & (c.pn.length == 0) & (c.times.reset == 0)
 }
 
 fn pn_rule(c: Config, t: Ticks) -> bool
     ensures { λ r. ⌜ r ≡ rule8 c t ⌝ }
 {
     if c.pn.on {
-        let mut ok = choice::both(c.layout.cbv != config::OFF, pn_range_rule(c));
-        ok = choice::both(ok, c.pn.masked == c.pn.length);
-        return choice::both(ok, pn_time_rule(t));
+        return (c.layout.cbv != config::OFF)
+            & pn_range_rule(c)
+            & (c.pn.masked == c.pn.length)
+            & pn_time_rule(t);
     }
     pn_absent_rule(c)
 }

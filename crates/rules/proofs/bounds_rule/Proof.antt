@@ -5,7 +5,7 @@ use Rattle.rules.proofs.bounds_rule.Tie as tie
 
 returns : tie.Need-returns
 unfolding rule2
-returns c = rw (c .both2 .ensures, c .before .in-bounds2 .ensures, c .before .before .both .ensures, c .before .before .before .in-bounds .ensures, c .before .before .before .before .times-within .ensures)
+returns c = rw (c .in-bounds2 .ensures, c .before .in-bounds .ensures, c .before .before .times-within .ensures)
 
 pub bounds-rule-spec : {M : Type 1} → statement M
-bounds-rule-spec = tie.close (tie.spec (λ c κs. tt) (λ c κs. tt) (λ c κs. tt) (λ c κs. tt) (λ c κs. tt) returns)
+bounds-rule-spec = tie.close (tie.spec (λ c κs. tt) (λ c κs. tt) (λ c κs. tt) returns)

@@ -5,7 +5,7 @@ use Rattle.rules.proofs.header_rule.Tie as tie
 
 returns : tie.Need-returns
 unfolding rule7
-returns c = rw (c .both5 .ensures, c .before .before .header-length .ensures, c .before .before .before .both4 .ensures, c .before .before .before .before .is-behind2 .ensures, c .before .before .before .before .before .both3 .ensures, c .before .before .before .before .before .before .is-behind .ensures, c .before .before .before .before .before .before .before .both2 .ensures, c .before .before .before .before .before .before .before .before .either .ensures, c .before .before .before .before .before .before .before .before .before .before .before .both .ensures, c .before .before .before .before .before .before .before .before .before .before .before .before .is-placed2 .ensures, c .before .before .before .before .before .before .before .before .before .before .before .before .before .is-placed .ensures)
+returns c = rw (c .before .header-length .ensures, c .before .before .is-behind2 .ensures, c .before .before .before .is-behind .ensures, c .before .before .before .before .before .before .is-placed2 .ensures, c .before .before .before .before .before .before .before .is-placed .ensures)
 
 pub header-rule-spec : {M : Type 1} → statement M
-header-rule-spec = tie.close (tie.spec (λ c κs. tt) (λ c κs. tt) (λ c κs. tt) (λ c κs. tt) (λ c κs. tt) (λ c κs. tt) (λ c κs. tt) (λ c κs. tt) (λ c κs. tt) (λ c κs. tt) (λ c κs. tt) returns)
+header-rule-spec = tie.close (tie.spec (λ c κs. tt) (λ c κs. tt) (λ c κs. tt) (λ c κs. tt) (λ c κs. tt) returns)

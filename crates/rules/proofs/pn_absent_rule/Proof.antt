@@ -1,11 +1,12 @@
 -- `rules::pn_absent_rule` meets its contract. Assumes nothing.
 use Rattle.rules.specs.Rules.{pnAbsent}
+use mathlib.Core.Path.{refl}
 use Rattle.rules.proofs.pn_absent_rule.Statement.{statement}
 use Rattle.rules.proofs.pn_absent_rule.Tie as tie
 
 returns : tie.Need-returns
 unfolding pnAbsent
-returns c = rw (c .both2 .ensures, c .before .before .both .ensures)
+returns c = refl
 
 pub pn-absent-rule-spec : {M : Type 1} → statement M
-pn-absent-rule-spec = tie.close (tie.spec (λ c κs. tt) (λ c κs. tt) returns)
+pn-absent-rule-spec = tie.close (tie.spec returns)

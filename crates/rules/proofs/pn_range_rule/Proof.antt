@@ -5,7 +5,7 @@ use Rattle.rules.proofs.pn_range_rule.Tie as tie
 
 returns : tie.Need-returns
 unfolding pnRange
-returns c = rw (c .both3 .ensures, c .before .either .ensures, c .before .before .ends-at .ensures, c .before .before .before .before .both2 .ensures, c .before .before .before .before .before .ends-within .ensures, c .before .before .before .before .before .before .both .ensures, c .before .before .before .before .before .before .before .before .before .header-length .ensures)
+returns c = rw (c .ends-at .ensures, c .before .before .ends-within .ensures, c .before .before .before .before .before .header-length .ensures)
 
 pub pn-range-rule-spec : {M : Type 1} → statement M
-pn-range-rule-spec = tie.close (tie.spec (λ c κs. tt) (λ c κs. tt) (λ c κs. tt) (λ c κs. tt) (λ c κs. tt) (λ c κs. tt) (λ c κs. tt) returns)
+pn-range-rule-spec = tie.close (tie.spec (λ c κs. tt) (λ c κs. tt) (λ c κs. tt) returns)
