@@ -13,23 +13,10 @@ use Rattle.ticks.specs.Ticks.{conversionOf, ticksOf}
 use Rattle.bits.specs.Bits.{someMasked}
 use Rattle.config.specs.Bounds.{within}
 use Rattle.config.specs.Ranges.{headerLength}
-use Rattle.rules.specs.Rules.{
-  firstBroken,
-  firstBrokenBy,
-  ticksFor,
-  rule1,
-  rule2,
-  rule3,
-  rule4,
-  rule5,
-  rule6,
-  rule7,
-  rule8,
-  timesWithin,
-  pnRange,
-  pnTime,
-  pnAbsent,
-}
+use Rattle.rules.specs.Rules.{firstBroken, firstBrokenBy}
+use Rattle.time_rules.specs.TimeRules.{ticksFor, rule1, rule2, rule3, rule4, rule5, timesWithin}
+use Rattle.header_rules.specs.HeaderRules.{rule6, rule7}
+use Rattle.pn_rules.specs.PnRules.{rule8, pnRange, pnTime, pnAbsent}
 use Rattle.filter.specs.Filter.{verdictOf, keeps}
 use Rattle.timers.specs.Timers.{allWithin, countedDown, loadedWhere, vectorsDiffer}
 use Rattle.decision.specs.Decision.{ruleAt, table}

@@ -15,7 +15,8 @@ use Rattle.pnc.specs.Pnc.{numberIn, numberOrZero, rangeOf}
 use Rattle.config.specs.declared.Config.{Config}
 use Rattle.config.specs.declared.Ticks.{Ticks}
 use Rattle.config.specs.Ranges.{pduMost, pncMost, pnMost}
-use Rattle.rules.specs.Rules.{firstBroken, ticksFor}
+use Rattle.rules.specs.Rules.{firstBroken}
+use Rattle.time_rules.specs.TimeRules.{ticksFor}
 use Rattle.states.specs.declared.State.the-variants.{BusSleep}
 use Rattle.states.specs.declared.Mode.{Mode}
 use Rattle.states.specs.declared.Traffic.{Traffic}

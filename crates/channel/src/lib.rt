@@ -315,7 +315,7 @@ impl Channel {
         let rule = rules::first_broken_rule(c);
         if rule == 0 {
             return Started {
-                channel: Channel::fresh(c, rules::ticks_for(c)),
+                channel: Channel::fresh(c, time_rules::ticks_for(c)),
                 answer: Answer::Done,
             };
         }

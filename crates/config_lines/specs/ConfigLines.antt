@@ -5,7 +5,7 @@ use Prim.Native.Nat.{ℕ}
 use Rattle.answers.specs.Answers.{numberOf}
 use Rattle.channel.specs.Channel.{fresh, initialised}
 use Rattle.config.specs.declared.Config.{Config}
-use Rattle.rules.specs.Rules.{ticksFor}
+use Rattle.time_rules.specs.TimeRules.{ticksFor}
 use Rattle.refusals.specs.Refusals.{isDone}
 use Rattle.report.specs.Report.{letterOf}
 use Rattle.print.specs.Print.{dash}

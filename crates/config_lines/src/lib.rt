@@ -26,7 +26,7 @@ pub fn holding(phase: Phase, next: u64, c: Config) -> Run
     Run {
         phase: phase,
         next: next,
-        channel: Channel::fresh(c, rules::ticks_for(c)),
+        channel: Channel::fresh(c, time_rules::ticks_for(c)),
     }
 }
 

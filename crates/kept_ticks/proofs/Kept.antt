@@ -7,7 +7,8 @@ use borrow.Author.Tests.{eqb-true}
 use Rattle.choice.proofs.Tests.{and-left, and-right}
 use Rattle.config.specs.declared.Config.{Config}
 use Rattle.config.specs.declared.Ticks.{Ticks}
-use Rattle.rules.specs.Rules.{firstBroken, firstBrokenBy, ticksFor}
+use Rattle.rules.specs.Rules.{firstBroken, firstBrokenBy}
+use Rattle.time_rules.specs.TimeRules.{ticksFor}
 use Rattle.kept_ticks.specs.KeptTicks.{sameTicks, configured}
 
 pub same-ticks : (t u : Ticks) → sameTicks t u ≡ true → t ≡ u

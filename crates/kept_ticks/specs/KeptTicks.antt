@@ -3,7 +3,8 @@ use mathlib.Core.Bool.{Bool, _&&_}
 use lib.Dec.{eqb}
 use Rattle.config.specs.declared.Config.{Config}
 use Rattle.config.specs.declared.Ticks.{Ticks}
-use Rattle.rules.specs.Rules.{firstBroken, ticksFor}
+use Rattle.rules.specs.Rules.{firstBroken}
+use Rattle.time_rules.specs.TimeRules.{ticksFor}
 
 -- ticks kept beside the configuration are what its times come to
 abbrev pub sameTicks : Ticks → Ticks → Bool

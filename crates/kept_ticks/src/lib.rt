@@ -5,7 +5,7 @@
 use config::Config;
 use config::Ticks;
 ghost use mathlib.Core.Path.{_≡_};
-ghost use Rattle.rules.specs.Rules.{ticksFor};
+ghost use Rattle.time_rules.specs.TimeRules.{ticksFor};
 ghost use Rattle.kept_ticks.specs.KeptTicks.{configured, sameTicks};
 
 // Are kept ticks what the times come to? By multiplying.

@@ -4,7 +4,10 @@ use mathlib.Core.Bool.{Bool, true, false}
 use Prim.Native.Nat.{ℕ, suc}
 use native.Mathlib.Omega.{arith}
 use Rattle.config.specs.declared.Config.{Config}
-use Rattle.rules.specs.Rules.{ticksFor, rule1, rule2, rule3, rule4, rule5, rule6, rule7, rule8, unless, firstBroken, firstBrokenBy}
+use Rattle.time_rules.specs.TimeRules.{ticksFor, rule1, rule2, rule3, rule4, rule5}
+use Rattle.header_rules.specs.HeaderRules.{rule6, rule7, unless}
+use Rattle.pn_rules.specs.PnRules.{rule8}
+use Rattle.rules.specs.Rules.{firstBroken, firstBrokenBy}
 
 -- every rule is kept
 pub record Passes (c : Config) : Type 0 where

@@ -9,23 +9,10 @@ use Rattle.ticks.specs.Ticks.{conversionOf, ticksOf}
 use Rattle.config.specs.declared.Config.{Config}
 use Rattle.config.specs.Bounds.{within}
 use Rattle.config.specs.Ranges.{headerLength}
-use Rattle.rules.specs.Rules.{
-  firstBroken,
-  firstBrokenBy,
-  pnAbsent,
-  pnRange,
-  pnTime,
-  rule1,
-  rule2,
-  rule3,
-  rule4,
-  rule5,
-  rule6,
-  rule7,
-  rule8,
-  ticksFor,
-  timesWithin,
-}
+use Rattle.rules.specs.Rules.{firstBroken, firstBrokenBy}
+use Rattle.pn_rules.specs.PnRules.{pnAbsent, pnRange, pnTime, rule8}
+use Rattle.time_rules.specs.TimeRules.{rule1, rule2, rule3, rule4, rule5, ticksFor, timesWithin}
+use Rattle.header_rules.specs.HeaderRules.{rule6, rule7}
 use Rattle.states.specs.declared.State.{State}
 use Rattle.states.specs.declared.State.the-variants.{BusSleep, PrepareBusSleep, NormalOperation, ReadySleep}
 use Rattle.decision.specs.Decision.{

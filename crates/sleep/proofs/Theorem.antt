@@ -12,7 +12,8 @@ use Rattle.timers.proofs.Timers.{within-zeros}
 use Rattle.config.specs.declared.Config.{Config}
 use Rattle.config.specs.declared.Ticks.{Ticks}
 use Rattle.config.specs.Ranges.{pncMost}
-use Rattle.rules.specs.Rules.{firstBroken, ticksFor}
+use Rattle.rules.specs.Rules.{firstBroken}
+use Rattle.time_rules.specs.TimeRules.{ticksFor}
 use Rattle.rules.proofs.Passes.{passes}
 use Rattle.states.specs.declared.Mode.{Mode}
 use Rattle.decision.specs.Decision.{Call}

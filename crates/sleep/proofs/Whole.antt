@@ -12,7 +12,8 @@ use Rattle.timers.specs.Timers.{countedDown, loadedWhere}
 use Rattle.timers.proofs.Timers.{within-counted-down}
 use Rattle.config.specs.declared.Config.{Config}
 use Rattle.config.specs.declared.Ticks.{Ticks}
-use Rattle.rules.specs.Rules.{firstBroken, ticksFor}
+use Rattle.rules.specs.Rules.{firstBroken}
+use Rattle.time_rules.specs.TimeRules.{ticksFor}
 use Rattle.rules.proofs.Passes.{passes}
 use Rattle.filter.specs.Filter.{informs}
 use Rattle.states.specs.declared.Mode.{Mode}

@@ -12,7 +12,8 @@ use Rattle.channel.specs.Channel.{fresh, initialised, started, zero}
 use Rattle.commands.specs.declared.Asked.{Asked}
 use Rattle.commands.specs.declared.Asked.the-variants.{Unreadable, Call}
 use Rattle.config.specs.declared.Config.{Config}
-use Rattle.rules.specs.Rules.{firstBroken, ticksFor}
+use Rattle.rules.specs.Rules.{firstBroken}
+use Rattle.time_rules.specs.TimeRules.{ticksFor}
 use Rattle.decision.specs.Decision as calls
 use Rattle.refusals.specs.Refusals.{isDone}
 use Rattle.config_line.specs.ConfigLine.{readConfig}

@@ -1,5 +1,5 @@
 -- `kept_ticks::same_ticks` meets its contract. Assumes nothing.
-use Rattle.rules.specs.Rules.{ticksFor}
+use Rattle.time_rules.specs.TimeRules.{ticksFor}
 use Rattle.kept_ticks.proofs.same_ticks.Statement.{statement}
 use Rattle.kept_ticks.proofs.same_ticks.Tie as tie
 
