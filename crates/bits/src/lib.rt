@@ -42,7 +42,7 @@ pub fn some_masked(bytes: &[u8], mask: &[u8]) -> bool
     let mut found = false;
     let mut i: usize = 0;
     while i < bytes.len() {
-        found = choice::either(found, bytes[i] & byte_at(mask, i) != 0);
+        found = found | (bytes[i] & byte_at(mask, i) != 0);
         i = i + 1;
     }
     found

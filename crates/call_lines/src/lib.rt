@@ -26,8 +26,8 @@ pub fn running(run: Run, text: &[u8], from: usize, out: &mut [u8], begin: usize)
     let t = run.channel.own.ticks;
     let passes = kept_ticks::configured(c, t);
     let setup = traffic::setup_of(c, t);
-    let mut tops = [0u16; PNC_MOST];
-    pn_limits::put_tops(c, t, &mut tops);
+    let mut limits = [0u16; PNC_MOST];
+    pn_limits::put_limits(c, t, &mut limits);
     let mut m = run.channel.own.mode;
     let mut x = run.channel.own.traffic;
     let mut user = run.channel.own.user;
@@ -40,7 +40,7 @@ pub fn running(run: Run, text: &[u8], from: usize, out: &mut [u8], begin: usize)
     loop {
         match text::line_at(text, at) {
             Span::Line(first, end) => {
-                let ok = soundness::sound_by(passes, setup, m, x, &tops, &era, &eira);
+                let ok = soundness::sound_by(passes, setup, m, x, &limits, &era, &eira);
                 let s = replay::later_line_in_place(
                     ok,
                     c,

@@ -132,6 +132,6 @@ pub fn tx_confirmation(ch: Channel, good: bool) -> Reply
 pub fn confirm_pn_availability(ch: Channel) -> Reply
     ensures { λ r. ⌜ r ≡ replied ch confirmPnAvailability ⌝ }
 {
-    let off = choice::negation(ch.own.config.pn.on);
+    let off = !ch.own.config.pn.on;
     plain(ch, decision::CONFIRM_PN_AVAILABILITY, false, off, true)
 }

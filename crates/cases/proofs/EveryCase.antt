@@ -18,7 +18,8 @@ use Rattle.time_rules.specs.TimeRules.{ticksFor, rule1, rule2, rule3, rule4, ru
 use Rattle.header_rules.specs.HeaderRules.{rule6, rule7}
 use Rattle.pn_rules.specs.PnRules.{rule8, pnRange, pnTime, pnAbsent}
 use Rattle.filter.specs.Filter.{verdictOf, keeps}
-use Rattle.timers.specs.Timers.{allWithin, countedDown, loadedWhere, vectorsDiffer}
+use Rattle.timers.specs.Timers.{allWithin, countedDown, loadedWhere}
+use Rattle.vectors.specs.Vectors.{vectorsDiffer}
 use Rattle.decision.specs.Decision.{ruleAt, table}
 use Rattle.modes.specs.Mode.{enabled, enterNetwork, enterRepeat, heard, nmInReady, nmInRepeatOrNormal, prepared, repeatInRepeat, restart, waitInPrepare}
 use Rattle.transitions.specs.Transitions.{modeBy, trafficBy}

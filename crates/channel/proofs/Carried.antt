@@ -8,8 +8,9 @@ use Rattle.channel.specs.declared.state.Channel.{Channel}
 use Rattle.channel.specs.declared.state.Effect.{Effect}
 use Rattle.channel.specs.declared.state.Reply.{Reply}
 use lib.ListN.{length}
-use Rattle.timers.specs.Timers.{countedDown, vectorsDiffer}
-use Rattle.timers.proofs.Timers.{differs-not}
+use Rattle.timers.specs.Timers.{countedDown}
+use Rattle.vectors.specs.Vectors.{vectorsDiffer}
+use Rattle.vectors.proofs.Vectors.{differs-not}
 use Rattle.decision.specs.declared.Rule.the-variants.{Keep}
 use Rattle.decision.specs.Decision.{Call, rxIndication, mainFunction, ruleOf}
 use Rattle.frames.specs.Frames.{accepted, asksRepeat, framed, loadedBy, sentLoaded}

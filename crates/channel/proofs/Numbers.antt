@@ -1,7 +1,7 @@
 -- The calls that change no vector and no byte go by their number. Assumes nothing.
 use mathlib.Core.Path.{_≡_}
 use mathlib.Core.Bool.{Bool, true}
-use Rattle.timers.proofs.Timers.{differs-not}
+use Rattle.vectors.proofs.Vectors.{differs-not}
 use Rattle.channel.specs.declared.state.Channel.{Channel}
 use Rattle.decision.specs.Decision.{
   Call,

@@ -10,7 +10,8 @@ use Rattle.answers.specs.declared.Answer.the-variants.{Done, Rule}
 use Rattle.bits.specs.declared.Lowest.{Lowest}
 use Rattle.bits.specs.declared.Lowest.the-variants.{At, Nowhere}
 use Rattle.bits.specs.Bits.{countOnes, lowestIn}
-use Rattle.timers.specs.Timers.{countedDown, vectorByte, vectorsDiffer}
+use Rattle.timers.specs.Timers.{countedDown}
+use Rattle.vectors.specs.Vectors.{vectorByte, vectorsDiffer}
 use Rattle.pnc.specs.Pnc.{numberIn, numberOrZero, rangeOf}
 use Rattle.config.specs.declared.Config.{Config}
 use Rattle.config.specs.declared.Ticks.{Ticks}

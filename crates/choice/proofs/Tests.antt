@@ -1,6 +1,6 @@
 -- Laws of tests: two tests of one fact are equal, and what a joined test says. Assumes nothing.
 use mathlib.Core.Path.{_≡_, refl}
-use mathlib.Core.Bool.{Bool, true, false, _&&_, _||_}
+use mathlib.Core.Bool.{Bool, true, false, not, xor, Bool·beq, _&&_, _||_}
 use mathlib.Core.Logic.{_⊎_, inl, inr}
 use Prim.Native.Nat.{ℕ, _≤_}
 use native.Mathlib.Omega.{arith}
@@ -41,3 +41,11 @@ and-right false false e = e
 pub or-cases : (a b : Bool) → (a || b) ≡ true → (a ≡ true) ⊎ (b ≡ true)
 or-cases true b e = inl refl
 or-cases false b e = inr e
+
+-- what `^` computes is the library's `xor`
+pub xor-is : (a b : Bool) → not (Bool·beq a b) ≡ xor a b
+unfolding xor
+xor-is true true = refl
+xor-is true false = refl
+xor-is false true = refl
+xor-is false false = refl

@@ -4,38 +4,7 @@
 // Promises: each function is the library's operation of the same meaning. Leaves to others: what is chosen, and why.
 ghost use mathlib.Core.Path.{_≡_};
 ghost use lib.Dec.{ltb};
-ghost use mathlib.Core.Bool.{cond, not, _&&_, _||_, xor};
-
-pub fn both(a: bool, b: bool) -> bool
-    ensures { λ r. ⌜ r ≡ (a && b) ⌝ }
-{
-    if a { b } else { false }
-}
-
-pub fn either(a: bool, b: bool) -> bool
-    ensures { λ r. ⌜ r ≡ (a || b) ⌝ }
-{
-    if a { true } else { b }
-}
-
-// The contrary of a test.
-pub fn negation(a: bool) -> bool
-    ensures { λ r. ⌜ r ≡ not a ⌝ }
-{
-    if a { false } else { true }
-}
-
-pub fn unlike(a: bool, b: bool) -> bool
-    ensures { λ r. ⌜ r ≡ xor a b ⌝ }
-{
-    if a {
-        if b {
-            return false;
-        }
-        return true;
-    }
-    if b { true } else { false }
-}
+ghost use mathlib.Core.Bool.{cond};
 
 pub fn pick8(test: bool, a: u8, b: u8) -> u8
     ensures { λ r. ⌜ r ≡ cond test a b ⌝ }
@@ -44,12 +13,6 @@ pub fn pick8(test: bool, a: u8, b: u8) -> u8
 }
 
 pub fn pick16(test: bool, a: u16, b: u16) -> u16
-    ensures { λ r. ⌜ r ≡ cond test a b ⌝ }
-{
-    if test { a } else { b }
-}
-
-pub fn pick32(test: bool, a: u32, b: u32) -> u32
     ensures { λ r. ⌜ r ≡ cond test a b ⌝ }
 {
     if test { a } else { b }

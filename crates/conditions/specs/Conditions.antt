@@ -9,9 +9,9 @@ use Rattle.states.specs.declared.Traffic.{Traffic}
 use Rattle.traffic.specs.declared.Setup.{Setup}
 use Rattle.states.specs.State.{inNetwork, isPrepare, isRepeat, isNormal, settled, transmits}
 
--- a timer runs, from 1 to its top, exactly where it should, and is 0 elsewhere
+-- a timer runs, from 1 to its limit, exactly where it should, and is 0 elsewhere
 abbrev pub runs : Bool → ℕ → ℕ → Bool
-runs running top n = cond running (leb 1 n && leb n top) (eqb n 0)
+runs running limit n = cond running (leb 1 n && leb n limit) (eqb n 0)
 
 -- a flag that is set only where a test holds
 abbrev pub only : Bool → Bool → Bool

@@ -16,11 +16,11 @@ use traffic::Setup;
 ghost use mathlib.Core.Path.{_≡_};
 ghost use Rattle.conditions.specs.Conditions.{larger, modeSound, only, passiveSound, requestFits, runs, trafficSound};
 
-fn runs(running: bool, top: u16, n: u16) -> bool
-    ensures { λ r. ⌜ r ≡ runs running top n ⌝ }
+fn runs(running: bool, limit: u16, n: u16) -> bool
+    ensures { λ r. ⌜ r ≡ runs running limit n ⌝ }
 {
     if running {
-        return (1 <= n) & (n <= top);
+        return (1 <= n) & (n <= limit);
     }
     n == 0
 }

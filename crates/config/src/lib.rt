@@ -126,7 +126,7 @@ pub fn in_bounds(field: usize, value: u64) -> bool
 {
     if field < BOUNDS.len() {
         let b = BOUNDS[field];
-        return choice::both(b.0 <= value, value <= b.1);
+        return (b.0 <= value) & (value <= b.1);
     }
     false
 }

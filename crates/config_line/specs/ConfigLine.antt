@@ -24,7 +24,11 @@ positionOf x = cond (eqb x dashNumber) off x
 unfoldable pub configReads : List ℕ → Bool
 configReads t =
     allNumbers (take 9 (drop 1 t))
-    && (isFlag (getD t 10 0) && (isNumber (getD t 11 0) && (isPosition (getD t 12 0) && (isPosition (getD t 13 0) && isNumber (getD t 14 0)))))
+    && isFlag (getD t 10 0)
+    && isNumber (getD t 11 0)
+    && isPosition (getD t 12 0)
+    && isPosition (getD t 13 0)
+    && isNumber (getD t 14 0)
 
 -- the configuration, with PN off
 unfoldable pub configOf : List ℕ → Config

@@ -16,7 +16,7 @@ ghost use Rattle.config_line.specs.ConfigLine.{configOf, configReads, is
 fn is_position(x: u64) -> bool
     ensures { λ r. ⌜ r ≡ isPosition x ⌝ }
 {
-    choice::either(x < 2, x == fields::DASH)
+    (x < 2) | (x == fields::DASH)
 }
 
 // The position that a field gives: a dash turns the header field off.
@@ -30,19 +30,12 @@ fn config_reads(t: &[u64; settings::CFG_FIELDS]) -> bool
     ensures { λ r. ⌜ r ≡ configReads (now (t .entry)) ⌝ }
 {
     let all: &[u64] = t;
-    choice::both(
-        settings::all_numbers(&all[1..10]),
-        choice::both(
-            settings::is_flag(t[10]),
-            choice::both(
-                settings::is_number(t[11]),
-                choice::both(
-                    is_position(t[12]),
-                    choice::both(is_position(t[13]), settings::is_number(t[14])),
-                ),
-            ),
-        ),
-    )
+    settings::all_numbers(&all[1..10])
+        & settings::is_flag(t[10])
+        & settings::is_number(t[11])
+        & is_position(t[12])
+        & is_position(t[13])
+        & settings::is_number(t[14])
 }
 
 // The configuration with PN off.
@@ -87,10 +80,7 @@ pub fn read_config(l: &[u8]) -> Setting
     let mut t = [0u64; settings::CFG_FIELDS];
     let n = fields::tokens(l, &mut t);
     Setting {
-        readable: choice::both(
-            settings::is_line(l, names::CFG, settings::CFG_FIELDS, n),
-            config_reads(&t),
-        ),
+        readable: settings::is_line(l, names::CFG, settings::CFG_FIELDS, n) & config_reads(&t),
         config: config_of(&t),
     }
 }

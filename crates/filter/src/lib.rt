@@ -24,10 +24,7 @@ pub fn informs(cbv: u32) -> bool
 pub fn keeps(awake: bool, cbv: u32, pn: &[u8], mask: &[u8]) -> bool
     ensures { λ r. ⌜ r ≡ keeps awake cbv (now (pn .entry)) (now (mask .entry)) ⌝ }
 {
-    choice::either(
-        awake,
-        choice::both(informs(cbv), bits::some_masked(pn, mask)),
-    )
+    awake | (informs(cbv) & bits::some_masked(pn, mask))
 }
 
 // The filter's decision on a PDU with this control bit vector and these PN bytes.

@@ -10,7 +10,8 @@ ghost use mathlib.Core.Path.{_≡_};
 ghost use mathlib.Core.Bool.{cond};
 ghost use Prim.Native.Nat.{_≤_};
 ghost use lib.Seq.{sets};
-ghost use Rattle.timers.specs.Timers.{countedDown, loadedWhere, vectorsDiffer};
+ghost use Rattle.timers.specs.Timers.{countedDown, loadedWhere};
+ghost use Rattle.vectors.specs.Vectors.{vectorsDiffer};
 ghost use Rattle.filter.specs.Filter.{keeps};
 ghost use Rattle.frames.specs.Frames.{accepted, asksRepeat, cbvSent, framed, loadedBy, sentLoaded};
 
@@ -30,7 +31,7 @@ fn load<'a>(
 fn differ(a: &[u16; PNC_MOST], b: &[u16; PNC_MOST]) -> bool
     ensures { λ r. ⌜ r ≡ vectorsDiffer (now (a .entry)) (now (b .entry)) ⌝ }
 {
-    timers::vectors_differ(a, b)
+    vectors::vectors_differ(a, b)
 }
 
 pub fn count_down(timers: &mut [u16; PNC_MOST]) -> bool
@@ -60,10 +61,7 @@ pub fn accepted(c: Config, filter: bool, pdu: &[u8]) -> bool
     let mask = c.pn.mask;
     let pn = slices::part(pdu, c.pn.start as usize, c.pn.length as usize);
     let cbv = layout::byte_at(pdu, c.layout.cbv);
-    choice::either(
-        choice::negation(filter),
-        keeps(c.pn.awake, cbv as u32, pn, &mask),
-    )
+    !filter | keeps(c.pn.awake, cbv as u32, pn, &mask)
 }
 
 // Does it ask for Repeat Message?

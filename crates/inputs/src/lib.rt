@@ -17,7 +17,7 @@ pub fn set_user_data(mut ch: Channel, bytes: &[u8]) -> Reply
     let state = m.state;
     let ok = soundness::sound(c, ch.own.ticks, m, ch.own.traffic, &ch.own.era, &ch.eira);
     let rule = decision::rule_of(state, decision::SET_USER_DATA);
-    let size = choice::negation(bytes.len() as u64 == config::user_length(c));
+    let size = bytes.len() as u64 != config::user_length(c);
     let a = refusals::judge(ok, c.passive, false, decision::is_not_here(rule), size);
     if refusals::is_done(a) {
         frames::store(bytes, &mut ch.own.user);
@@ -35,8 +35,8 @@ pub fn set_pn_requests(mut ch: Channel, bytes: &[u8]) -> Reply
     let state = m.state;
     let ok = soundness::sound(c, ch.own.ticks, m, ch.own.traffic, &ch.own.era, &ch.eira);
     let rule = decision::rule_of(state, decision::SET_PN_REQUESTS);
-    let off = choice::negation(c.pn.on);
-    let size = choice::negation(bytes.len() as u64 == c.pn.length);
+    let off = !c.pn.on;
+    let size = bytes.len() as u64 != c.pn.length;
     let a = refusals::judge(ok, c.passive, off, decision::is_not_here(rule), size);
     if refusals::is_done(a) {
         frames::store(bytes, &mut ch.own.requests);

@@ -47,8 +47,5 @@ pub fn write_fields(c: Config, sni: u8, cbv: u8, pn: &[u8], user: &[u8], frame: 
 pub fn of_lengths(c: Config, pn: usize, user: usize) -> bool
     ensures { λ r. ⌜ r ≡ ofLengths c pn user ⌝ }
 {
-    choice::both(
-        pn as u64 == c.pn.length,
-        user as u64 == config::user_length(c),
-    )
+    (pn as u64 == c.pn.length) & (user as u64 == config::user_length(c))
 }

@@ -42,8 +42,8 @@ topped g x frame = putByte (g .cbv) (x .cbv) (putByte (g .sni) (x .sni) frame)
 abbrev laidOut : Shape → Fields → List ℕ → List ℕ
 laidOut g x frame = sets (sets (topped g x frame) (g .start) (x .pn)) (g .ustart) (x .user)
 
-top-length : (g : Shape) (x : Fields) (frame : List ℕ) → length (topped g x frame) ≡ length frame
-top-length g x frame = put-length (g .cbv) (x .cbv) (putByte (g .sni) (x .sni) frame) ∙ put-length (g .sni) (x .sni) frame
+limit-length : (g : Shape) (x : Fields) (frame : List ℕ) → length (topped g x frame) ≡ length frame
+limit-length g x frame = put-length (g .cbv) (x .cbv) (putByte (g .sni) (x .sni) frame) ∙ put-length (g .sni) (x .sni) frame
 
 shape-length : (g : Shape) (x : Fields) (frame : List ℕ) → length (laidOut g x frame) ≡ length frame
 shape-length g x frame = laid-length (g .cbv) (x .cbv) (g .sni) (x .sni) (g .start) (g .ustart) (x .pn) (x .user) frame
@@ -109,7 +109,7 @@ header-out cbv-first a b frame k h =
 
 -- a shape that fills its PDU
 record Fits (g : Shape) : Type 0 where
-  top : Header (g .sni) (g .cbv) (g .header)
+  limit : Header (g .sni) (g .cbv) (g .header)
   fill : Filled (g .length) (g .header) (g .start) (g .pn) (g .ustart) (g .user)
 
 module _ (g : Shape) (w : Fits g) (x : Fields) (frame : List ℕ) (pns : length (x .pn) ≡ g .pn) (users : length (x .user) ≡ g .user)
@@ -124,23 +124,23 @@ module _ (g : Shape) (w : Fits g) (x : Fields) (frame : List ℕ) (pns : length 
   in-pn j b =
       away (x .user) (sets (topped g x frame) (g .start) (x .pn)) (g .ustart) (g .start + j)
       (⊎-elim (λ e. absurd (omega arith)) (λ q. ⊎-elim (λ e. inr (inl (omega arith))) (λ e. inr (inr (omega arith))) q) (w .fill .apart))
-      ∙ at-inside (x .pn) (topped g x frame) (g .start) j (omega arith) (omega (arith, w .fill, top-length g x frame))
+      ∙ at-inside (x .pn) (topped g x frame) (g .start) j (omega arith) (omega (arith, w .fill, limit-length g x frame))
 
   in-user : (j : ℕ) → j < g .user → getD (laidOut g x frame) (g .ustart + j) 0 ≡ getD (x .user) j 0
   in-user j b =
       at-inside (x .user) (sets (topped g x frame) (g .start) (x .pn)) (g .ustart) j (omega arith)
-      (omega (arith, w .fill, length-sets (topped g x frame) (g .start) (x .pn), top-length g x frame))
+      (omega (arith, w .fill, length-sets (topped g x frame) (g .start) (x .pn), limit-length g x frame))
 
   behind : (k : ℕ) → g .length ≤ k → getD (laidOut g x frame) k 0 ≡ getD frame k 0
   behind k b =
       away (x .user) (sets (topped g x frame) (g .start) (x .pn)) (g .ustart) k (inr (inr (omega (arith, w .fill))))
       ∙ away (x .pn) (topped g x frame) (g .start) k (inr (inr (omega (arith, w .fill))))
-      ∙ header-out (w .top) (x .sni) (x .cbv) frame k (omega (arith, w .fill))
+      ∙ header-out (w .limit) (x .sni) (x .cbv) frame k (omega (arith, w .fill))
 
   -- the fields, read off the PDU
-  top-back : (byteAt (g .sni) (take (g .length) (laidOut g x frame)) ≡ cond (eqb (g .sni) off) 0 (x .sni))
+  limit-back : (byteAt (g .sni) (take (g .length) (laidOut g x frame)) ≡ cond (eqb (g .sni) off) 0 (x .sni))
       × (byteAt (g .cbv) (take (g .length) (laidOut g x frame)) ≡ cond (eqb (g .cbv) off) 0 (x .cbv))
-  top-back = header-back (w .top) (x .sni) (x .cbv) frame (laidOut g x frame) (g .length) (omega (arith, w .fill)) room in-header
+  limit-back = header-back (w .limit) (x .sni) (x .cbv) frame (laidOut g x frame) (g .length) (omega (arith, w .fill)) room in-header
 
   pn-back : take (g .pn) (drop (g .start) (take (g .length) (laidOut g x frame))) ≡ x .pn
   pn-back =
@@ -183,7 +183,7 @@ module _ (g : Shape) (w : Fits g) (pdu frame : List ℕ) (size : length pdu ≡ 
   -- each place of the PDU holds its byte again
   each-back : (i : ℕ) → Stands (g .header) (g .start) (g .pn) (g .ustart) (g .user) i → getD (laidOut g x frame) i 0 ≡ getD pdu i 0
   each-back i (inl b) =
-      in-header g w x frame pn-size user-size room i b ∙ header-forth (w .top) pdu frame (omega (arith, w .fill)) i b
+      in-header g w x frame pn-size user-size room i b ∙ header-forth (w .limit) pdu frame (omega (arith, w .fill)) i b
   each-back i (inr (inl b)) =
       let q : g .start + (i - g .start) ≡ i = omega (arith, b .0) in
       rw q at (in-pn g w x frame pn-size user-size room (i - g .start) (omega (arith, b .0, b .1)))
@@ -319,7 +319,7 @@ shape c =
     }
 
 fits : (c : Config) → firstBroken c ≡ 0 → Fits (shape c)
-fits c e = record { top = headed (c .layout) (passes c e .header) .positions; fill = filled-by c (passes c e) }
+fits c e = record { limit = headed (c .layout) (passes c e .header) .positions; fill = filled-by c (passes c e) }
 
 reads-back : (c : Config) (f : Fields) (frame pn user : List ℕ) → Made c f frame → length pn ≡ c .pn .length
     → length user ≡ userLengthOf c
@@ -327,7 +327,7 @@ reads-back : (c : Config) (f : Fields) (frame pn user : List ℕ) → Made c f f
 unfolding frameOf fieldsOf compared
 reads-back c f frame pn user m a b =
     let w = fits c (m .whole) in
-    let t = top-back (shape c) w f frame (m .pns) (m .users) (m .room) in
+    let t = limit-back (shape c) w f frame (m .pns) (m .users) (m .room) in
     rw (
       m .is,
       reads c (take (c .layout .length) (frameOf c f frame)) pn user (m .whole) a b

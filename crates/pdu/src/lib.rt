@@ -19,10 +19,7 @@ pub fn compose(c: Config, sni: u8, cbv: u8, pn: &[u8], user: &[u8], frame: &mut 
 {
     let rule = rules::first_broken_rule(c);
     if rule == 0 {
-        if choice::both(
-            layout::of_lengths(c, pn.len(), user.len()),
-            c.layout.length <= frame.len() as u64,
-        ) {
+        if layout::of_lengths(c, pn.len(), user.len()) & (c.layout.length <= frame.len() as u64) {
             layout::write_fields(c, sni, cbv, pn, user, frame);
             return Answer::Done;
         }
@@ -46,10 +43,7 @@ pub fn read(c: Config, pdu: &[u8], pn: &mut [u8], user: &mut [u8]) -> Reading
 {
     let rule = rules::first_broken_rule(c);
     if rule == 0 {
-        if choice::both(
-            layout::of_lengths(c, pn.len(), user.len()),
-            pdu.len() as u64 == c.layout.length,
-        ) {
+        if layout::of_lengths(c, pn.len(), user.len()) & (pdu.len() as u64 == c.layout.length) {
             slices::take_part(pdu, c.pn.start as usize, pn);
             slices::take_part(pdu, config::user_start(c) as usize, user);
             return Reading {

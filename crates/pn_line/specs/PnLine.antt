@@ -75,7 +75,8 @@ readPartial c l =
     record {
       readable =
           isLine l pnName pnFields (length (tokensOf l))
-          && (partialReads (tableOf l) && isMask (length (hexPairs (maskText l))) (length (maskText l)));
+          && partialReads (tableOf l)
+          && isMask (length (hexPairs (maskText l))) (length (maskText l));
       config =
           withPartial c (tableOf l) (length (hexPairs (maskText l))) (sets (replicate 8 0) 0 (hexPairs (maskText l)));
     }

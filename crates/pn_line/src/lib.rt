@@ -61,7 +61,7 @@ fn partial_reads(t: &[u64; settings::CFG_FIELDS]) -> bool
     ensures { λ r. ⌜ r ≡ partialReads (now (t .entry)) ⌝ }
 {
     let all: &[u64] = t;
-    choice::both(settings::all_numbers(&all[1..4]), settings::is_flag(t[4]))
+    settings::all_numbers(&all[1..4]) & settings::is_flag(t[4])
 }
 
 // The configuration with PN on, and the mask of so many bytes.
@@ -111,10 +111,9 @@ pub fn read_partial(c: Config, l: &[u8]) -> Setting
     let hex = mask_text(l);
     let pairs = hex::hex_pairs(hex, &mut mask);
     Setting {
-        readable: choice::both(
-            settings::is_line(l, names::PN, PN_FIELDS, n),
-            choice::both(partial_reads(&t), is_mask(pairs, hex.len())),
-        ),
+        readable: settings::is_line(l, names::PN, PN_FIELDS, n)
+            & partial_reads(&t)
+            & is_mask(pairs, hex.len()),
         config: with_partial(c, &t, pairs, &mask),
     }
 }

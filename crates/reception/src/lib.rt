@@ -36,7 +36,7 @@ pub fn rx_indication_in_place(
 {
     let state = m.state;
     let rule = decision::rule_of(state, decision::RX_INDICATION);
-    let size = choice::negation(pdu.len() as u64 == c.layout.length);
+    let size = pdu.len() as u64 != c.layout.length;
     let a = refusals::judge(ok, false, false, decision::is_not_here(rule), size);
     if refusals::is_done(a) {
         if frames::accepted(c, m.filter, pdu) {

@@ -13,17 +13,14 @@ fn counts(s: Setup, after: Mode) -> bool
     ensures { λ r. ⌜ r ≡ counts s after ⌝ }
 {
     let state = after.state;
-    choice::both(
-        choice::both(states::transmits(state), choice::negation(s.passive)),
-        after.sending,
-    )
+    states::transmits(state) & !s.passive & after.sending
 }
 
 // Is a frame due?
 pub fn is_due(s: Setup, after: Mode, x: Traffic) -> bool
     ensures { λ r. ⌜ r ≡ isDue s after x ⌝ }
 {
-    choice::both(counts(s, after), x.message <= 1)
+    counts(s, after) & (x.message <= 1)
 }
 
 // The message timer and the fast count, with the driver's word.

@@ -31,7 +31,7 @@ nameOf l = callOf (take (until tab l) l)
 
 -- a line of a name, with as many fields as it must have, and not too long
 unfoldable pub isLine : List ℕ → ℕ → ℕ → ℕ → Bool
-isLine l name must count = leb (length l) lineMost && (eqb (nameOf l) name && eqb count must)
+isLine l name must count = leb (length l) lineMost && eqb (nameOf l) name && eqb count must
 
 -- how many fields line 1 has
 abbrev pub cfgFields : ℕ

@@ -8,7 +8,7 @@ use lib.Dec.{ltb}
 use lib.ListN.{length, getD, take, length-take}
 use borrow.Author.Tests.{ltb-false}
 use Rattle.bits.specs.Bits.{bitAt}
-use Rattle.timers.specs.Timers.{allWithin, loadedWhere, topAt}
+use Rattle.timers.specs.Timers.{allWithin, loadedWhere, limitAt}
 use Rattle.bits.proofs.Bits.{bit-past, bit-take}
 use Rattle.timers.proofs.Timers.{at-loaded-where, length-loaded-where, within-at, within-each}
 
@@ -27,8 +27,8 @@ loaded-within bytes mask n p ts h e =
         let past : bitAt bytes k ≡ false = bit-past bytes k (omega (arith, ltb-false (k / 8) n z)) in
         absurd (let q : _≡_ {A = ℕ} 0 1 = cc in omega arith)
 
-    go : (k : ℕ) (a b : Bool) → bitAt bytes k ≡ a → bitAt mask k ≡ b → getD ts k 0 ≤ topAt (take n mask) p k
-        → cond (a && b) p (getD ts k 0) ≤ topAt (take n mask) p k
+    go : (k : ℕ) (a b : Bool) → bitAt bytes k ≡ a → bitAt mask k ≡ b → getD ts k 0 ≤ limitAt (take n mask) p k
+        → cond (a && b) p (getD ts k 0) ≤ limitAt (take n mask) p k
     go k true true x y u = rw (marked k (ltb (k / 8) n) refl x y) (omega arith)
     go k true false x y u = u
     go k false b x y u = u

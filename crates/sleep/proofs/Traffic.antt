@@ -19,8 +19,8 @@ use Rattle.sleep.proofs.Passing.{Tuned}
 use Rattle.sleep.proofs.Simulation.{clash}
 
 abbrev Timer : Bool → ℕ → ℕ → Type 0
-Timer true top n = (1 ≤ n) × (n ≤ top)
-Timer false top n = n ≡ 0
+Timer true limit n = (1 ≤ n) × (n ≤ limit)
+Timer false limit n = n ≡ 0
 
 -- The facts behind the tests, over the tests of the state and over the fields, so that a proof for one state or record is one
 -- for any with the same tests and fields. `sends`, `repeats`, `normal`, `network`, `calm` are the tests of the state.
@@ -40,9 +40,9 @@ TrafficOk s m x =
 
 -- ---- from the facts to the tests
 
-timer-runs : (b : Bool) (top n : ℕ) → Timer b top n → runs b top n ≡ true
-timer-runs true top n h = rw (le-leb 1 n (h .0), le-leb n top (h .1))
-timer-runs false top n h = eq-eqb n 0 h
+timer-runs : (b : Bool) (limit n : ℕ) → Timer b limit n → runs b limit n ≡ true
+timer-runs true limit n h = rw (le-leb 1 n (h .0), le-leb n limit (h .1))
+timer-runs false limit n h = eq-eqb n 0 h
 
 only-left : (a b d : Bool) → only a (b && d) ≡ true → only a b ≡ true
 only-left true true d h = refl
@@ -81,15 +81,15 @@ pub never : (b : Bool) → only b false ≡ true → b ≡ false
 never true h = clash (sym h)
 never false h = refl
 
-top-cycle : (a b : ℕ) → a ≤ larger a b
-top-cycle a b = go (ltb a b) refl
+limit-cycle : (a b : ℕ) → a ≤ larger a b
+limit-cycle a b = go (ltb a b) refl
   where
     go : (t : Bool) → ltb a b ≡ t → a ≤ cond t b a
     go true e = omega (arith, ltb-true a b e)
     go false e = omega arith
 
-top-fast : (a b : ℕ) → b ≤ larger a b
-top-fast a b = go (ltb a b) refl
+limit-fast : (a b : ℕ) → b ≤ larger a b
+limit-fast a b = go (ltb a b) refl
   where
     go : (t : Bool) → ltb a b ≡ t → b ≤ cond t b a
     go true e = omega arith
@@ -98,7 +98,7 @@ top-fast a b = go (ltb a b) refl
 module _ (s : Setup) (g : Tuned (s .ticks) (s .immediate)) where
   -- a message timer that is loaded with 1, with the offset, with the cycle
   one-fits : (1 ≤ 1) × (1 ≤ larger (s .ticks .cycle) (s .ticks .fast))
-  one-fits = (omega arith, omega (arith, g .cycle, top-cycle (s .ticks .cycle) (s .ticks .fast)))
+  one-fits = (omega arith, omega (arith, g .cycle, limit-cycle (s .ticks .cycle) (s .ticks .fast)))
 
   first-fits : Timer (not (s .passive)) (larger (s .ticks .cycle) (s .ticks .fast)) (firstMessage s)
   first-fits = go (s .passive) (ltb (s .ticks .offset) 1) refl
@@ -108,7 +108,7 @@ module _ (s : Setup) (g : Tuned (s .ticks) (s .immediate)) where
       go true a e = refl
       go false true e = one-fits
       go false false e =
-          (omega (arith, ltb-false (s .ticks .offset) 1 e), omega (arith, g .offset, top-cycle (s .ticks .cycle) (s .ticks .fast)))
+          (omega (arith, ltb-false (s .ticks .offset) 1 e), omega (arith, g .offset, limit-cycle (s .ticks .cycle) (s .ticks .fast)))
 
   -- Repeat
   repeat-ok : {rp wk : Bool} (x : Traffic) → Free (s .passive) rp wk
@@ -309,7 +309,7 @@ module _ (s : Setup) (g : Tuned (s .ticks) (s .immediate)) where
   -- step f: the message timer and the fast count
   record Loaded (repeats : Bool) (message fast : ℕ) : Type 0 where
     up : 1 ≤ message
-    top : message ≤ larger (s .ticks .cycle) (s .ticks .fast)
+    limit : message ≤ larger (s .ticks .cycle) (s .ticks .fast)
     cap : fast ≤ cond repeats (s .immediate) 0
 
   some-fast : (r : Bool) (f : ℕ) → f ≤ cond r (s .immediate) 0 → 1 ≤ f → 1 ≤ s .immediate
@@ -320,12 +320,12 @@ module _ (s : Setup) (g : Tuned (s .ticks) (s .immediate)) where
       → Loaded r (cond t (s .ticks .fast) (s .ticks .cycle)) (f - 1)
   sent-loaded r f h true e =
       let i = g .fast (some-fast r f h (omega (arith, ltb-true 1 f e))) in
-      record { up = i; top = top-fast (s .ticks .cycle) (s .ticks .fast); cap = omega arith }
-  sent-loaded r f h false e = record { up = g .cycle; top = top-cycle (s .ticks .cycle) (s .ticks .fast); cap = omega arith }
+      record { up = i; limit = limit-fast (s .ticks .cycle) (s .ticks .fast); cap = omega arith }
+  sent-loaded r f h false e = record { up = g .cycle; limit = limit-cycle (s .ticks .cycle) (s .ticks .fast); cap = omega arith }
 
   missed-loaded : (r : Bool) (f : ℕ) → f ≤ cond r (s .immediate) 0 → (t : Bool) → Loaded r (cond t 1 (s .ticks .cycle)) f
-  missed-loaded r f h true = record { up = one-fits .0; top = one-fits .1; cap = h }
-  missed-loaded r f h false = record { up = g .cycle; top = top-cycle (s .ticks .cycle) (s .ticks .fast); cap = h }
+  missed-loaded r f h true = record { up = one-fits .0; limit = one-fits .1; cap = h }
+  missed-loaded r f h false = record { up = g .cycle; limit = limit-cycle (s .ticks .cycle) (s .ticks .fast); cap = h }
 
   pub framed-ok : (m : State) (after : Mode) (taken : Bool) (x : Traffic) → after .state ≡ m → TrafficOk s m x
       → TrafficOk s m (framing s after taken x)
@@ -352,7 +352,7 @@ module _ (s : Setup) (g : Tuned (s .ticks) (s .immediate)) where
       new : (n f : ℕ) → Loaded (isRepeat m) n f → (transmits m && not (s .passive)) ≡ true → TrafficOk s m (New n f)
       new n f d q =
           record {
-            message = rw q (d .up, d .top);
+            message = rw q (d .up, d .limit);
             fast = d .cap;
             remote = o .remote;
             repeating = o .repeating;
@@ -370,7 +370,7 @@ module _ (s : Setup) (g : Tuned (s .ticks) (s .immediate)) where
       out false z q =
           let a = rw q at (o .message) in
           let b = leb-false (x .message) 1 z in
-          new (x .message - 1) (x .fast) (record { up = omega arith; top = omega arith; cap = o .fast }) q
+          new (x .message - 1) (x .fast) (record { up = omega arith; limit = omega arith; cap = o .fast }) q
 
       go : (t : Bool) → (t ≡ true → (transmits m && not (s .passive)) ≡ true)
           → TrafficOk s m

@@ -3,7 +3,7 @@
 use Prim.Native.Nat.{ℕ}
 use mathlib.Core.Bool.{Bool, _&&_}
 use mathlib.Core.List.{List}
-use Rattle.timers.specs.Tops.{allUnder}
+use Rattle.pn_limits.specs.Limits.{allUnder}
 use Rattle.states.specs.declared.Mode.{Mode}
 use Rattle.states.specs.declared.Traffic.{Traffic}
 use Rattle.traffic.specs.declared.Setup.{Setup}
@@ -11,6 +11,6 @@ use Rattle.conditions.specs.Conditions.{modeSound, passiveSound, trafficSound}
 
 -- all conditions
 unfoldable pub soundBy : Bool → Setup → Mode → Traffic → List ℕ → List ℕ → List ℕ → Bool
-soundBy passes s m x tops era eira =
+soundBy passes s m x limits era eira =
     (passes && modeSound (s .ticks) m && trafficSound s (m .state) x && passiveSound (s .passive) m x)
-    && (allUnder tops era && allUnder tops eira)
+    && (allUnder limits era && allUnder limits eira)

@@ -13,21 +13,21 @@ ghost use mathlib.Core.Path.{_≡_};
 ghost use mathlib.Core.Bool.{_&&_};
 ghost use lib.ListN.{length};
 ghost use Rattle.config.specs.Ranges.{pncMost};
-ghost use Rattle.timers.specs.Tops.{allUnder};
+ghost use Rattle.pn_limits.specs.Limits.{allUnder};
 ghost use Rattle.kept_ticks.specs.KeptTicks.{configured};
 ghost use Rattle.soundness.specs.Sound.{soundOf};
 ghost use Rattle.soundness.specs.Kept.{soundBy};
 
 // The PN timers of both tables, at their lengths.
 fn timers_sound<'a>(
-    tops: &'a [u16; PNC_MOST],
+    limits: &'a [u16; PNC_MOST],
     era: &'a [u16; PNC_MOST],
     eira: &'a [u16; PNC_MOST],
 ) -> bool
-    ensures { λ r. ⌜ r ≡ (allUnder (now (tops .entry)) (now (era .entry)) && allUnder (now (tops .entry)) (now (eira .entry))) ⌝ }
+    ensures { λ r. ⌜ r ≡ (allUnder (now (limits .entry)) (now (era .entry)) && allUnder (now (limits .entry)) (now (eira .entry))) ⌝ }
     ensures { λ r. ⌜ (length (now (era .entry)) ≡ pncMost) × (length (now (eira .entry)) ≡ pncMost) ⌝ }
 {
-    timers::pair_under(tops, era, eira)
+    pn_limits::pair_under(limits, era, eira)
 }
 
 // A channel's parts are sound, with what its configuration comes to: whether it passes, what the rules need of it, and
@@ -37,11 +37,11 @@ pub fn sound_by<'a>(
     s: Setup,
     m: Mode,
     x: Traffic,
-    tops: &'a [u16; PNC_MOST],
+    limits: &'a [u16; PNC_MOST],
     era: &'a [u16; PNC_MOST],
     eira: &'a [u16; PNC_MOST],
 ) -> bool
-    ensures { λ r. ⌜ r ≡ soundBy passes s m x (now (tops .entry)) (now (era .entry)) (now (eira .entry)) ⌝ }
+    ensures { λ r. ⌜ r ≡ soundBy passes s m x (now (limits .entry)) (now (era .entry)) (now (eira .entry)) ⌝ }
     ensures { λ r. ⌜ (length (now (era .entry)) ≡ pncMost) × (length (now (eira .entry)) ≡ pncMost) ⌝ }
 {
     let state = m.state;
@@ -49,7 +49,7 @@ pub fn sound_by<'a>(
         & conditions::mode_sound(s.ticks, m)
         & conditions::traffic_sound(s, state, x)
         & conditions::passive_sound(s.passive, m, x)
-        & timers_sound(tops, era, eira)
+        & timers_sound(limits, era, eira)
 }
 
 // A channel's parts are sound; its tables are lent, not copied.
@@ -63,14 +63,14 @@ pub fn sound<'a>(
 ) -> bool
     ensures { λ r. ⌜ r ≡ soundOf c t m x (now (era .entry)) (now (eira .entry)) ⌝ }
 {
-    let mut tops = [0u16; PNC_MOST];
-    pn_limits::put_tops(c, t, &mut tops);
+    let mut limits = [0u16; PNC_MOST];
+    pn_limits::put_limits(c, t, &mut limits);
     sound_by(
         kept_ticks::configured(c, t),
         setup_of(c, t),
         m,
         x,
-        &tops,
+        &limits,
         era,
         eira,
     )

@@ -18,13 +18,13 @@ fn vector_of(t: &[u16; PNC_MOST]) -> [u8; PN_MOST]
     ensures { λ r. ⌜ r ≡ vectorOf (now (t .entry)) ⌝ }
 {
     [
-        timers::vector_byte(t, 0),
-        timers::vector_byte(t, 8),
-        timers::vector_byte(t, 16),
-        timers::vector_byte(t, 24),
-        timers::vector_byte(t, 32),
-        timers::vector_byte(t, 40),
-        timers::vector_byte(t, 48),
+        vectors::vector_byte(t, 0),
+        vectors::vector_byte(t, 8),
+        vectors::vector_byte(t, 16),
+        vectors::vector_byte(t, 24),
+        vectors::vector_byte(t, 32),
+        vectors::vector_byte(t, 40),
+        vectors::vector_byte(t, 48),
     ]
 }
 

@@ -67,7 +67,7 @@ pub fn main_function_in_place<'a>(
 {
     let state = m.state;
     let rule = decision::rule_of(state, decision::MAIN_FUNCTION);
-    let size = choice::negation(c.layout.length <= frame.len() as u64);
+    let size = (frame.len() as u64) < c.layout.length;
     let a = refusals::judge(ok, false, false, decision::is_not_here(rule), size);
     if refusals::is_done(a) {
         // Steps a to d.
@@ -77,7 +77,7 @@ pub fn main_function_in_place<'a>(
         let first = notes::first_by(rule, m, after);
         let second = notes::second_by(rule, m, old);
         // Step f without its frame, which no table and no byte of the channel depends on.
-        let sent = choice::both(taken, sending::is_due(s, after, x));
+        let sent = taken & sending::is_due(s, after, x);
         let y = sending::framing(s, after, taken, x);
         // Step e, and what a sent frame loads.
         let er = frames::count_down(era);

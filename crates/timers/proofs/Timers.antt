@@ -8,11 +8,12 @@ use native.Mathlib.Omega.{arith}
 use lib.Dec.{eqb, leb}
 use lib.ListN.{length, getD, replicate, length-replicate, getD-replicate}
 use borrow.Author.Tests.{ne-eqb, le-leb, leb-true}
-use Rattle.bits.specs.Lists.{mapFrom, allBelow, anyBelow}
+use Rattle.bits.specs.Lists.{mapFrom, anyBelow}
 use Rattle.bits.specs.Bits.{bitAt}
-use Rattle.timers.specs.Timers.{countedDown, loadedWhere, topAt, allWithin, vectorsDiffer}
-use Rattle.timers.specs.Tops.{topsOf, allUnder}
-use Rattle.bits.proofs.Lists.{length-map-from, at-map, all-true, all-at, all-ext, all-both, any-ext, any-rest}
+use Rattle.timers.specs.Timers.{countedDown, loadedWhere, limitAt, allWithin}
+use Rattle.vectors.specs.Vectors.{vectorsDiffer}
+use Rattle.bits.proofs.Lists.{length-map-from, at-map, all-true, all-at, any-ext, any-rest}
+use Rattle.vectors.proofs.Vectors.{xor-self}
 
 -- ---- counted down
 
@@ -58,26 +59,15 @@ at-loaded-where bytes mask p ts k h = at-map _ ts k h
 
 -- ---- within a mask
 
--- in a table within its mask each timer is at most its top
-pub within-at : (mask : List ℕ) (p : ℕ) (ts : List ℕ) (k : ℕ) → allWithin mask p ts ≡ true → k < length ts → getD ts k 0 ≤ topAt mask p k
+-- in a table within its mask each timer is at most its limit
+pub within-at : (mask : List ℕ) (p : ℕ) (ts : List ℕ) (k : ℕ) → allWithin mask p ts ≡ true → k < length ts → getD ts k 0 ≤ limitAt mask p k
 unfolding allWithin
-within-at mask p ts k e h = leb-true (getD ts k 0) (topAt mask p k) (all-at _ (length ts) k e h)
+within-at mask p ts k e h = leb-true (getD ts k 0) (limitAt mask p k) (all-at _ (length ts) k e h)
 
--- a table whose timers are each at most their top is within its mask
-pub within-each : (mask : List ℕ) (p : ℕ) (ts : List ℕ) → ((k : ℕ) → k < length ts → getD ts k 0 ≤ topAt mask p k) → allWithin mask p ts ≡ true
+-- a table whose timers are each at most their limit is within its mask
+pub within-each : (mask : List ℕ) (p : ℕ) (ts : List ℕ) → ((k : ℕ) → k < length ts → getD ts k 0 ≤ limitAt mask p k) → allWithin mask p ts ≡ true
 unfolding allWithin
-within-each mask p ts h = all-true _ (length ts) (λ k l. le-leb (getD ts k 0) (topAt mask p k) (h k l))
-
--- one pass over two tables of one length
-pub under-both : (tops a b : List ℕ) → length b ≡ length a
-    → allBelow (λ k. leb (getD a k 0) (getD tops k 0) && leb (getD b k 0) (getD tops k 0)) (length a) ≡ allUnder tops a && allUnder tops b
-unfolding allUnder
-under-both tops a b e = rw e (all-both _ _ (length a))
-
--- a table is within its mask exactly if each timer is at most its top
-pub under-tops : (mask : List ℕ) (p : ℕ) (xs ts : List ℕ) → length ts ≤ length xs → allUnder (topsOf mask p xs) ts ≡ allWithin mask p ts
-unfolding allUnder topsOf allWithin
-under-tops mask p xs ts h = all-ext _ _ (length ts) (λ k l. rw (at-map (λ j t. topAt mask p j) xs k (omega arith)))
+within-each mask p ts h = all-true _ (length ts) (λ k l. le-leb (getD ts k 0) (limitAt mask p k) (h k l))
 
 -- a table of stopped timers is within every mask
 pub within-zeros : (mask : List ℕ) (p n : ℕ) → allWithin mask p (replicate n 0) ≡ true
@@ -90,7 +80,7 @@ within-counted-down mask p ts e =
     within-each mask p (countedDown ts)
     (λ k l. rw (at-counted-down ts k) (omega (arith, within-at mask p ts k e (rw (length-counted-down ts) at l))))
 
--- one loaded timer is at most its top
+-- one loaded timer is at most its limit
 loaded-one : (a b : Bool) (p t : ℕ) → t ≤ cond b p 0 → cond (a && b) p t ≤ cond b p 0
 loaded-one true true p t h = le-refl p
 loaded-one true false p t h = h
@@ -103,20 +93,6 @@ within-loaded-where bytes mask p ts e =
     (λ k l.
     let h : k < length ts = rw (length-loaded-where bytes mask p ts) at l in
     rw (at-loaded-where bytes mask p ts k h) (loaded-one (bitAt bytes k) (bitAt mask k) p (getD ts k 0) (within-at mask p ts k e h)))
-
-xor-self : (b : Bool) → xor b b ≡ false
-unfolding xor
-xor-self true = refl
-xor-self false = refl
-
-none-below : (p : ℕ → Bool) (n : ℕ) → ((k : ℕ) → p k ≡ false) → anyBelow p n ≡ false
-none-below p zero h = refl
-none-below p (suc n) h = rw (none-below p n h, h n)
-
--- a vector does not differ from itself
-pub differs-not : (ts : List ℕ) → vectorsDiffer ts ts ≡ false
-unfolding vectorsDiffer
-differs-not ts = none-below (λ k. xor (eqb (getD ts k 0) 0) (eqb (getD ts k 0) 0)) (length ts) (λ k. xor-self (eqb (getD ts k 0) 0))
 
 -- loading changes the vector exactly if it changes the bit of one of the first n timers, where no later one is loaded
 pub loaded-where-differs : (bytes mask : List ℕ) (p : ℕ) (ts : List ℕ) (n : ℕ) → n ≤ length ts

@@ -1,10 +1,10 @@
 -- Reset timers, one for each bit of a vector, for any number of them. A bit is 1 while its timer is not 0. Assumes nothing.
-use Prim.Native.Nat.{ℕ, _+_, _-_, _*_, _^_}
-use mathlib.Core.Bool.{Bool, cond, _&&_, xor}
+use Prim.Native.Nat.{ℕ, _-_}
+use mathlib.Core.Bool.{Bool, cond, _&&_}
 use mathlib.Core.List.{List}
-use lib.Dec.{eqb, leb}
+use lib.Dec.{leb}
 use lib.ListN.{getD, length}
-use Rattle.bits.specs.Lists.{allBelow, anyBelow, mapFrom, sumBelow}
+use Rattle.bits.specs.Lists.{allBelow, mapFrom}
 use Rattle.bits.specs.Bits.{bitAt}
 
 -- every running timer one down; a stopped one stays 0
@@ -16,20 +16,9 @@ unfoldable pub loadedWhere : List ℕ → List ℕ → ℕ → List ℕ → List
 loadedWhere bytes mask p ts = mapFrom (λ k t. cond (bitAt bytes k && bitAt mask k) p t) 0 ts
 
 -- the most that a timer may hold: p where its bit is in the mask, else 0
-abbrev pub topAt : List ℕ → ℕ → ℕ → ℕ
-topAt mask p k = cond (bitAt mask k) p 0
+abbrev pub limitAt : List ℕ → ℕ → ℕ → ℕ
+limitAt mask p k = cond (bitAt mask k) p 0
 
 -- each timer is at most p, and 0 where its bit is not in the mask
 unfoldable pub allWithin : List ℕ → ℕ → List ℕ → Bool
-allWithin mask p ts = allBelow (λ k. leb (getD ts k 0) (topAt mask p k)) (length ts)
-
--- the vectors of two tables differ in some bit
-unfoldable pub vectorsDiffer : List ℕ → List ℕ → Bool
-vectorsDiffer a b = anyBelow (λ k. xor (eqb (getD a k 0) 0) (eqb (getD b k 0) 0)) (length a)
-
--- a timer's bit, and the byte of the vector whose first bit is timer `at`
-abbrev pub runningBit : ℕ → ℕ
-runningBit t = cond (eqb t 0) 0 1
-
-unfoldable pub vectorByte : List ℕ → ℕ → ℕ
-vectorByte ts at = sumBelow (λ i. 2 ^ i * runningBit (getD ts (at + i) 0)) 8
+allWithin mask p ts = allBelow (λ k. leb (getD ts k 0) (limitAt mask p k)) (length ts)

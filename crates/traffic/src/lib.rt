@@ -116,7 +116,7 @@ pub fn resumed(m: Mode, x: Traffic) -> Traffic
 {
     let state = m.state;
     let mut y = x;
-    let stopped = choice::both(choice::negation(m.sending), states::transmits(state));
+    let stopped = !m.sending & states::transmits(state);
     y.message = choice::pick16(stopped, 1, x.message);
     y
 }
@@ -183,7 +183,7 @@ pub fn in_normal(m: Mode, x: Traffic) -> Traffic
     ensures { λ r. ⌜ r ≡ inNormal m x ⌝ }
 {
     let mut y = x;
-    if choice::both(m.sending, 0 < x.remote) {
+    if m.sending & (0 < x.remote) {
         y.remote = ticks::down(x.remote);
         y.indicated = x.remote <= 1;
         return y;

@@ -20,7 +20,7 @@ abbrev μ-loop : tie.MeasureT-loop
 μ-loop bytes mask found₀ i₀ found i = length bytes - i
 
 loop-again : tie.Need-loop-again Inv-loop μ-loop
-loop-again c = let l = c .before .before .before .before .loop in (omega arith, any-more _ (l .i) (l .inv .1) (rw (c .before .byte-at .ensures) at (c .either .ensures)))
+loop-again c = let l = c .before .before .before .loop in (omega arith, any-more _ (l .i) (l .inv .1) (rw (c .byte-at .ensures)))
 
 returns : tie.Need-returns Inv-loop μ-loop
 unfolding someMasked
@@ -34,7 +34,6 @@ some-masked-spec =
     μ-loop
     (λ c. (search needs, refl))
     (λ c. omega arith)
-    (λ c κs. tt)
     (λ c κs. tt)
     (λ c. omega arith)
     (λ c. omega arith)

@@ -18,14 +18,14 @@ use Rattle.call_lines.proofs.running.Statement.{statement}
 use Rattle.call_lines.proofs.running.Tie as tie
 
 abbrev Inv-loop : tie.InvT-loop
-Inv-loop text from out₀ begin c t passes setup tops m₀ x₀ user₀ requests₀ era₀ eira₀ n₀ put₀ at₀ out m x user requests era eira n put at =
+Inv-loop text from out₀ begin c t passes setup limits m₀ x₀ user₀ requests₀ era₀ eira₀ n₀ put₀ at₀ out m x user requests era eira n put at =
     Going (runIn n₀ c t m₀ x₀ user₀ requests₀ era₀ eira₀) (linesOf (drop from text)) out₀ begin out put (runIn n c t m x user requests era eira)
     (linesOf (drop at text))
     × (put ≤ room * at)
     × (length out ≡ length out₀)
 
 abbrev μ-loop : tie.MeasureT-loop
-μ-loop text from out₀ begin c t passes setup tops m₀ x₀ user₀ requests₀ era₀ eira₀ n₀ put₀ at₀ out m x user requests era eira n put at =
+μ-loop text from out₀ begin c t passes setup limits m₀ x₀ user₀ requests₀ era₀ eira₀ n₀ put₀ at₀ out m x user requests era eira n put at =
     length text + 1 - at
 
 -- what is known of the places of a line that was found
@@ -43,7 +43,7 @@ judged c =
     let b = c .before .before .before .before .before .before .before .before in
     let a = c .before .before .before .before .before .before .before .before .before .before .before .before .before .before .before .before .before .before .before .before .before .before .before .args .run .channel .own in
     let w = c .sound-by .ensures in
-    rw (w .0, b .before .before .before .before .before .before .before .before .before .before .configured .ensures, b .before .before .before .before .before .before .before .before .before .setup-of .ensures, b .before .before .before .before .before .before .before .put-tops .ensures)
+    rw (w .0, b .before .before .before .before .before .before .before .before .before .before .configured .ensures, b .before .before .before .before .before .before .before .before .before .setup-of .ensures, b .before .before .before .before .before .before .before .put-limits .ensures)
     (sound-alike (a .config) (a .ticks) (b .loop .m) (b .loop .x) (replicate pncMost 0) (b .loop .era) (b .loop .eira) (omega (arith, w .1 .0)) (omega (arith, w .1 .1)))
 
 later-line-in-place-requires : tie.Need-later-line-in-place-requires Inv-loop μ-loop

@@ -5,7 +5,7 @@ use Rattle.filter.proofs.keeps.Tie as tie
 
 returns : tie.Need-returns
 unfolding keeps
-returns c = rw (c .either .ensures, c .before .both .ensures, c .before .before .some-masked .ensures, c .before .before .before .informs .ensures)
+returns c = rw (c .some-masked .ensures, c .before .informs .ensures)
 
 pub keeps-spec : {M : Type 1} → statement M
-keeps-spec = tie.close (tie.spec (λ c κs. tt) (λ c κs. tt) (λ c κs. tt) (λ c κs. tt) returns)
+keeps-spec = tie.close (tie.spec (λ c κs. tt) (λ c κs. tt) returns)

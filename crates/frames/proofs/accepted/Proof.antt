@@ -1,12 +1,12 @@
 -- `frames::accepted` meets its contract. Assumes nothing.
-use borrow.Author.Needs.{needs}
 use Rattle.frames.specs.Frames.{accepted}
+use borrow.Author.Needs.{needs}
 use Rattle.frames.proofs.accepted.Statement.{statement}
 use Rattle.frames.proofs.accepted.Tie as tie
 
 returns : tie.Need-returns
 unfolding accepted
-returns c = rw (c .either .ensures, c .before .keeps .ensures, c .before .before .before .negation .ensures, c .before .before .before .before .byte-at .ensures, c .before .before .before .before .before .part .ensures)
+returns c = rw (c .keeps .ensures, c .before .before .byte-at .ensures, c .before .before .before .part .ensures)
 
 pub accepted-spec : {M : Type 1} → statement M
-accepted-spec = tie.close (tie.spec (λ c κs. tt) (λ c κs. tt) (λ c κs. tt) (λ c. search needs) (λ c κs. tt) (λ c κs. tt) returns)
+accepted-spec = tie.close (tie.spec (λ c κs. tt) (λ c κs. tt) (λ c. search needs) (λ c κs. tt) returns)

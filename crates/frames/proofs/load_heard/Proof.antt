@@ -2,7 +2,7 @@
 use mathlib.Core.Path.{refl, sym, _∙_}
 use borrow.Author.Needs.{needs}
 use Rattle.frames.specs.Frames.{loadedBy}
-use Rattle.timers.proofs.Timers.{differs-not}
+use Rattle.vectors.proofs.Vectors.{differs-not}
 use Rattle.frames.proofs.load_heard.Statement.{statement}
 use Rattle.frames.proofs.load_heard.Tie as tie
 

@@ -5,7 +5,7 @@ use Rattle.layout.proofs.of_lengths.Tie as tie
 
 returns : tie.Need-returns
 unfolding ofLengths
-returns c = rw (c .both .ensures, c .before .user-length .ensures)
+returns c = rw (c .user-length .ensures)
 
 pub of-lengths-spec : {M : Type 1} → statement M
-of-lengths-spec = tie.close (tie.spec (λ c κs. tt) (λ c κs. tt) returns)
+of-lengths-spec = tie.close (tie.spec (λ c κs. tt) returns)

@@ -12,10 +12,10 @@ use Rattle.pdu.proofs.read.Tie as tie
 returns : tie.Need-returns
 returns c =
     let b = c .before .before .before .before .before .before .before .before .before .before .before in
-    let k = b .before .before .before in
+    let k = b .before .before in
     let a = k .before .before .before .before .before .before .args in
     let whole = sym (k .before .before .first-broken-rule .ensures) ∙ k .before .if1 .taken in
-    let fit = sym (rw (k .of-lengths .ensures) at (b .before .both .ensures)) ∙ b .if2 .taken in
+    let fit = rw (k .of-lengths .ensures) at (b .if2 .taken) in
     rw (
       c .byte-at2 .ensures,
       c .before .byte-at .ensures,
@@ -27,13 +27,13 @@ returns c =
 
 returns-2 : tie.Need-returns-2
 returns-2 c =
-    let k = c .before .before .before in
+    let k = c .before .before in
     reads-not _ _ _ _ (sym (k .before .before .first-broken-rule .ensures) ∙ k .before .if1 .taken)
-    (sym (rw (k .of-lengths .ensures) at (c .before .both .ensures)) ∙ c .if2 .left)
+    (rw (k .of-lengths .ensures) at (c .if2 .left))
 
 returns-3 : tie.Need-returns-3
 unfolding reading
 returns-3 c = rw (← c .before .first-broken-rule .ensures, ne-eqb _ _ (c .if1 .left))
 
 pub read-spec : {M : Type 1} → statement M
-read-spec = tie.close (tie.spec (λ c κs. tt) (λ c κs. tt) (λ c κs. tt) (λ c κs. tt) (λ c κs. tt) (λ c κs. tt) (λ c κs. tt) (λ c κs. tt) (λ c. search needs) (λ c. search needs) returns returns-2 returns-3)
+read-spec = tie.close (tie.spec (λ c κs. tt) (λ c κs. tt) (λ c κs. tt) (λ c κs. tt) (λ c κs. tt) (λ c κs. tt) (λ c κs. tt) (λ c. search needs) (λ c. search needs) returns returns-2 returns-3)

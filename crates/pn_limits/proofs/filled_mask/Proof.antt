@@ -1,5 +1,5 @@
 -- `pn_limits::filled_mask` meets its contract. Assumes nothing.
-use Rattle.pn_limits.specs.Filled.{filledMask}
+use Rattle.pn_limits.specs.Mask.{filledMask}
 use Rattle.pn_limits.proofs.filled_mask.Statement.{statement}
 use Rattle.pn_limits.proofs.filled_mask.Tie as tie
 

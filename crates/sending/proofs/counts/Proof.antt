@@ -5,7 +5,7 @@ use Rattle.sending.proofs.counts.Tie as tie
 
 returns : tie.Need-returns
 unfolding counts
-returns c = rw (c .both2 .ensures, c .before .both .ensures, c .before .before .negation .ensures, c .before .before .before .transmits .ensures)
+returns c = rw (c .before .before .transmits .ensures)
 
 pub counts-spec : {M : Type 1} → statement M
-counts-spec = tie.close (tie.spec (λ c κs. tt) (λ c κs. tt) (λ c κs. tt) (λ c κs. tt) returns)
+counts-spec = tie.close (tie.spec (λ c κs. tt) returns)

@@ -5,7 +5,7 @@ use Rattle.sending.proofs.is_due.Tie as tie
 
 returns : tie.Need-returns
 unfolding isDue
-returns c = rw (c .both .ensures, c .before .before .counts .ensures)
+returns c = rw (c .before .counts .ensures)
 
 pub is-due-spec : {M : Type 1} → statement M
-is-due-spec = tie.close (tie.spec (λ c κs. tt) (λ c κs. tt) returns)
+is-due-spec = tie.close (tie.spec (λ c κs. tt) returns)

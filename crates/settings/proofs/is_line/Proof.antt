@@ -5,7 +5,7 @@ use Rattle.settings.proofs.is_line.Tie as tie
 
 returns : tie.Need-returns
 unfolding isLine
-returns c = rw (c .both2 .ensures, c .before .both .ensures, c .before .before .name-of .ensures)
+returns c = rw (c .name-of .ensures)
 
 pub is-line-spec : {M : Type 1} → statement M
-is-line-spec = tie.close (tie.spec (λ c κs. tt) (λ c κs. tt) (λ c κs. tt) returns)
+is-line-spec = tie.close (tie.spec (λ c κs. tt) returns)

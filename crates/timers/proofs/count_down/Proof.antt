@@ -20,9 +20,9 @@ abbrev μ-loop : tie.MeasureT-loop
 
 loop-again : tie.Need-loop-again Inv-loop μ-loop
 loop-again c =
-    let l = c .before .before .before .before .loop in (
+    let l = c .before .before .before .loop in (
       upto-more _ _ (l .timers) (l .i) (omega arith) (l .inv .0) (c .down .ensures),
-      (omega arith, any-more _ (l .i) (l .inv .1 .1) (rw (upto-here _ _ (l .timers) (l .i) (l .inv .0)) at (c .before .either .ensures))),
+      (omega arith, any-more _ (l .i) (l .inv .1 .1) (rw (upto-here _ _ (l .timers) (l .i) (l .inv .0)))),
     )
 
 returns : tie.Need-returns Inv-loop μ-loop
@@ -42,7 +42,6 @@ count-down-spec =
     (λ c. ((refl, refl), (search needs, refl)))
     (λ c. omega arith)
     (λ c. search needs)
-    (λ c κs. tt)
     (λ c κs. tt)
     (λ c. omega arith)
     (λ c. search needs)

@@ -8,6 +8,7 @@ use borrow.Author.Needs.{needs}
 use lib.Dec.{eqb}
 use lib.ListN.{length, getD, length-set}
 use Rattle.bits.specs.Bits.{bitAt}
+use Rattle.choice.proofs.Tests.{xor-is}
 use Rattle.bits.specs.Lists.{anyBelow}
 use Rattle.timers.specs.Timers.{loadedWhere}
 use Rattle.bits.proofs.Bits.{both-past}
@@ -27,24 +28,22 @@ abbrev μ-loop : tie.MeasureT-loop
 
 loop-again : tie.Need-loop-again Inv-loop μ-loop
 loop-again c =
-    let p = c .before .before in
-    let b = p .before .before in
-    let l = b .before .before .before .before .before .before .loop in (
+    let b = c .before .before in
+    let l = b .before .before .before .before .before .loop in (
       upto-more _ _ (l .timers) (l .i) (omega arith) (l .inv .0)
-          (rw (b .both .ensures, b .before .bit-of2 .ensures, b .before .before .before .bit-of .ensures) at (p .pick16 .ensures)),
+          (rw (b .bit-of2 .ensures, b .before .before .bit-of .ensures) at (c .pick16 .ensures)),
       (
         simp length-set (l .inv .1 .0),
         (
           omega arith,
           any-more _ (l .i) (l .inv .1 .1 .1)
               (rw (
-                c .before .unlike .ensures,
-                p .pick16 .ensures,
-                b .both .ensures,
-                b .before .bit-of2 .ensures,
-                b .before .before .before .bit-of .ensures,
+                c .pick16 .ensures,
+                b .bit-of2 .ensures,
+                b .before .before .bit-of .ensures,
                 upto-here _ _ (l .timers) (l .i) (l .inv .0),
-              ) at (c .either .ensures)),
+                xor-is _ _,
+              )),
         ),
       ),
     )
@@ -77,11 +76,8 @@ load-where-spec =
     (λ c. omega arith)
     (λ c. search needs)
     (λ c κs. tt)
-    (λ c κs. tt)
     (λ c. omega arith)
     (λ c. omega arith)
-    (λ c κs. tt)
-    (λ c κs. tt)
     (λ c κs. tt)
     (λ c. omega arith)
     (λ c. omega arith)

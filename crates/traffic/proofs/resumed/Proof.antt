@@ -5,7 +5,7 @@ use Rattle.traffic.proofs.resumed.Tie as tie
 
 returns : tie.Need-returns
 unfolding resumed
-returns c = rw (c .pick16 .ensures, c .before .both .ensures, c .before .before .transmits .ensures, c .before .before .before .negation .ensures)
+returns c = rw (c .pick16 .ensures, c .before .transmits .ensures)
 
 pub resumed-spec : {M : Type 1} → statement M
-resumed-spec = tie.close (tie.spec (λ c κs. tt) (λ c κs. tt) (λ c κs. tt) (λ c κs. tt) returns)
+resumed-spec = tie.close (tie.spec (λ c κs. tt) (λ c κs. tt) returns)

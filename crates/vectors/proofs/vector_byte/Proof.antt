@@ -1,10 +1,10 @@
--- `timers::vector_byte` meets its contract. Assumes nothing.
+-- `vectors::vector_byte` meets its contract. Assumes nothing.
 use native.Mathlib.Nat.{add-zero}
 use native.Mathlib.Omega.{arith}
 use borrow.Author.Needs.{needs}
-use Rattle.timers.specs.Timers.{vectorByte}
-use Rattle.timers.proofs.vector_byte.Statement.{statement}
-use Rattle.timers.proofs.vector_byte.Tie as tie
+use Rattle.vectors.specs.Vectors.{vectorByte}
+use Rattle.vectors.proofs.vector_byte.Statement.{statement}
+use Rattle.vectors.proofs.vector_byte.Tie as tie
 
 returns : tie.Need-returns
 unfolding vectorByte

@@ -1,4 +1,4 @@
--- `timers::vectors_differ` meets its contract: `found` says whether one of the first `i` bits differs. Assumes nothing.
+-- `vectors::vectors_differ` meets its contract: `found` says whether one of the first `i` bits differs. Assumes nothing.
 use mathlib.Core.Path.{_≡_, refl}
 use mathlib.Core.Bool.{xor}
 use Prim.Native.Nat.{_-_, _≤_}
@@ -6,11 +6,12 @@ use native.Mathlib.Omega.{arith}
 use borrow.Author.Needs.{needs}
 use lib.Dec.{eqb}
 use lib.ListN.{length, getD}
+use Rattle.choice.proofs.Tests.{xor-is}
 use Rattle.bits.specs.Lists.{anyBelow}
-use Rattle.timers.specs.Timers.{vectorsDiffer}
+use Rattle.vectors.specs.Vectors.{vectorsDiffer}
 use Rattle.bits.proofs.Lists.{any-more, any-done}
-use Rattle.timers.proofs.vectors_differ.Statement.{statement}
-use Rattle.timers.proofs.vectors_differ.Tie as tie
+use Rattle.vectors.proofs.vectors_differ.Statement.{statement}
+use Rattle.vectors.proofs.vectors_differ.Tie as tie
 
 abbrev Inv-loop : tie.InvT-loop
 Inv-loop a b found₀ i₀ found i = (i ≤ length a) × (found ≡ anyBelow (λ k. xor (eqb (getD a k 0) 0) (eqb (getD b k 0) 0)) i)
@@ -20,8 +21,8 @@ abbrev μ-loop : tie.MeasureT-loop
 
 loop-again : tie.Need-loop-again Inv-loop μ-loop
 loop-again c =
-    let l = c .before .before .before .before .before .loop in
-    (omega arith, any-more _ (l .i) (l .inv .1) (rw (c .before .unlike .ensures, c .before .before .timer-at .ensures) at (c .either .ensures)))
+    let l = c .before .before .before .loop in
+    (omega arith, any-more _ (l .i) (l .inv .1) (rw (c .timer-at .ensures, xor-is _ _)))
 
 returns : tie.Need-returns Inv-loop μ-loop
 unfolding vectorsDiffer
@@ -36,8 +37,6 @@ vectors-differ-spec =
     (λ c. (search needs, refl))
     (λ c. omega arith)
     (λ c. search needs)
-    (λ c κs. tt)
-    (λ c κs. tt)
     (λ c κs. tt)
     (λ c. omega arith)
     (λ c. omega arith)

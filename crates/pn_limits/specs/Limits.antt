@@ -6,12 +6,12 @@ use mathlib.Core.List.{List}
 use lib.Dec.{leb}
 use lib.ListN.{getD, length}
 use Rattle.bits.specs.Lists.{allBelow, mapFrom}
-use Rattle.timers.specs.Timers.{topAt}
+use Rattle.timers.specs.Timers.{limitAt}
 
--- the tops of a table
-unfoldable pub topsOf : List ℕ → ℕ → List ℕ → List ℕ
-topsOf mask p ts = mapFrom (λ k t. topAt mask p k) 0 ts
+-- the limits of a table
+unfoldable pub limitsOf : List ℕ → ℕ → List ℕ → List ℕ
+limitsOf mask p ts = mapFrom (λ k t. limitAt mask p k) 0 ts
 
--- each timer is at most its top
+-- each timer is at most its limit
 unfoldable pub allUnder : List ℕ → List ℕ → Bool
-allUnder tops ts = allBelow (λ k. leb (getD ts k 0) (getD tops k 0)) (length ts)
+allUnder limits ts = allBelow (λ k. leb (getD ts k 0) (getD limits k 0)) (length ts)

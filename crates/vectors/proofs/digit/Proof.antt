@@ -1,9 +1,9 @@
--- `timers::digit` meets its contract. Assumes nothing.
+-- `vectors::digit` meets its contract. Assumes nothing.
 use mathlib.Core.Path.{refl}
 use native.Mathlib.Omega.{arith}
 use borrow.Author.Tests.{eq-eqb, ne-eqb}
-use Rattle.timers.proofs.digit.Statement.{statement}
-use Rattle.timers.proofs.digit.Tie as tie
+use Rattle.vectors.proofs.digit.Statement.{statement}
+use Rattle.vectors.proofs.digit.Tie as tie
 
 returns : tie.Need-returns
 returns c = rw (eq-eqb _ _ (c .if1 .taken)) (refl, omega arith)

@@ -1,4 +1,4 @@
--- `timers::pair_under` meets its contract: `ok` says whether the first `i` timers of both tables are at most their tops.
+-- `pn_limits::pair_under` meets its contract: `ok` says whether the first `i` timers of both tables are at most their limits.
 -- Assumes nothing.
 use mathlib.Core.Path.{_≡_, refl, _∙_}
 use mathlib.Core.Bool.{_&&_}
@@ -9,27 +9,27 @@ use lib.Dec.{leb}
 use lib.ListN.{length, getD}
 use Rattle.bits.specs.Lists.{allBelow}
 use Rattle.bits.proofs.Lists.{all-more, all-done}
-use Rattle.timers.proofs.Timers.{under-both}
-use Rattle.timers.proofs.pair_under.Statement.{statement}
-use Rattle.timers.proofs.pair_under.Tie as tie
+use Rattle.pn_limits.proofs.Limits.{under-both}
+use Rattle.pn_limits.proofs.pair_under.Statement.{statement}
+use Rattle.pn_limits.proofs.pair_under.Tie as tie
 
 abbrev Inv-loop : tie.InvT-loop
-Inv-loop tops a b ok₀ i₀ ok i =
-    (i ≤ length a) × (ok ≡ allBelow (λ k. leb (getD a k 0) (getD tops k 0) && leb (getD b k 0) (getD tops k 0)) i)
+Inv-loop limits a b ok₀ i₀ ok i =
+    (i ≤ length a) × (ok ≡ allBelow (λ k. leb (getD a k 0) (getD limits k 0) && leb (getD b k 0) (getD limits k 0)) i)
 
 abbrev μ-loop : tie.MeasureT-loop
-μ-loop tops a b ok₀ i₀ ok i = length a - i
+μ-loop limits a b ok₀ i₀ ok i = length a - i
 
 loop-again : tie.Need-loop-again Inv-loop μ-loop
 loop-again c =
-    let l = c .before .before .before .before .before .before .before .loop in
-    (omega arith, all-more _ (l .i) (l .inv .1) (rw (c .before .both .ensures) at (c .both2 .ensures)))
+    let l = c .before .before .before .before .before .loop in
+    (omega arith, all-more _ (l .i) (l .inv .1) refl)
 
 returns : tie.Need-returns Inv-loop μ-loop
 returns c =
     let l = c .before .loop in
-    let s = c .before .before .before .before .before in
-    all-done _ (l .inv .0) (c .loop-test .left) (l .inv .1) ∙ under-both (s .args .tops .now) (s .args .a .now) (s .args .b .now) (s .pre .1)
+    let s = c .before .before in
+    all-done _ (l .inv .0) (c .loop-test .left) (l .inv .1) ∙ under-both (s .args .limits .now) (s .args .a .now) (s .args .b .now) (s .pre .1)
 
 pub pair-under-spec : {M : Type 1} → statement M
 pair-under-spec =
@@ -46,8 +46,6 @@ pair-under-spec =
     (λ c. omega arith)
     (λ c. omega arith)
     (λ c. omega arith)
-    (λ c κs. tt)
-    (λ c κs. tt)
     (λ c. omega arith)
     (λ c. omega arith)
     loop-again
