@@ -21,9 +21,11 @@ use Rattle.filter.specs.Filter.{verdictOf, keeps}
 use Rattle.timers.specs.Timers.{allWithin, countedDown, loadedWhere}
 use Rattle.vectors.specs.Vectors.{vectorsDiffer}
 use Rattle.decision.specs.Decision.{ruleAt, table}
-use Rattle.modes.specs.Mode.{enabled, enterNetwork, enterRepeat, heard, nmInReady, nmInRepeatOrNormal, prepared, repeatInRepeat, restart, waitInPrepare}
+use Rattle.modes.specs.Mode.{enabled, enterNetwork, enterRepeat, heard, restart}
+use Rattle.mode_steps.specs.ModeSteps.{nmInReady, nmInRepeatOrNormal, prepared, repeatInRepeat, waitInPrepare}
 use Rattle.transitions.specs.Transitions.{modeBy, trafficBy}
-use Rattle.traffic.specs.Traffic.{inNormal, inReady, inRepeat, setupOf, toRepeat}
+use Rattle.traffic_steps.specs.TrafficSteps.{inNormal, inReady, inRepeat}
+use Rattle.traffic.specs.Traffic.{setupOf, toRepeat}
 use Rattle.sending.specs.Sending.{counts, framing, isDue}
 use Rattle.notes.specs.Notes.{firstBy, secondBy}
 use Rattle.kept_ticks.specs.KeptTicks.{configured}

@@ -1,16 +1,9 @@
--- What each transition rule does to the mode: the state with its flags, and the NM, wait and repeat timers. Assumes nothing.
-use Prim.Native.Nat.{ℕ, _-_}
+-- What each transition rule of a call does to the mode: the state with its flags, and the NM, wait and repeat timers. Assumes nothing.
+use Prim.Native.Nat.{ℕ}
 use mathlib.Core.Bool.{Bool, true, cond}
-use lib.Dec.{leb, eqb}
 use Rattle.config.specs.declared.Ticks.{Ticks}
 use Rattle.states.specs.declared.State.{State}
-use Rattle.states.specs.declared.State.the-variants.{
-  BusSleep,
-  PrepareBusSleep,
-  RepeatMessage,
-  NormalOperation,
-  ReadySleep,
-}
+use Rattle.states.specs.declared.State.the-variants.{RepeatMessage}
 use Rattle.states.specs.declared.Mode.{Mode}
 
 abbrev pub mode : State → Bool → Bool → Bool → ℕ → ℕ → ℕ → Mode
@@ -30,8 +23,6 @@ withFilter f m = mode (m .state) (m .requested) (m .sending) f (m .nm) (m .wait)
 
 abbrev pub withNm : ℕ → Mode → Mode
 withNm n m = mode (m .state) (m .requested) (m .sending) (m .filter) n (m .wait) (m .repeat)
-
--- ---- entering
 
 -- the state in which entering Repeat leaves the channel
 abbrev pub landing : State
@@ -57,30 +48,3 @@ heard again t m = cond again (enterRepeat t (restart t m)) (restart t m)
 -- sending enabled: after a disable the NM timer restarts
 unfoldable pub enabled : Ticks → Mode → Mode
 enabled t m = withSending true (withNm (cond (m .sending) (m .nm) (t .timeout)) m)
-
--- ---- the tick
-
--- a, in Repeat and Normal: sending enabled, the NM timer down; at 0 it starts again
-unfoldable pub nmInRepeatOrNormal : Ticks → Mode → Mode
-nmInRepeatOrNormal t m = cond (m .sending) (withNm (cond (leb (m .nm) 1) (t .timeout) (m .nm - 1)) m) m
-
--- a, in Ready: at 0 Prepare, and the wait timer starts
-unfoldable pub prepared : Ticks → Mode → Mode
-prepared t m = mode PrepareBusSleep (m .requested) (m .sending) (m .filter) 0 (t .wait) (m .repeat)
-
-unfoldable pub nmInReady : Ticks → Mode → Mode
-nmInReady t m = cond (m .sending) (cond (leb (m .nm) 1) (prepared t m) (withNm (m .nm - 1) m)) m
-
--- b: the wait timer down; at 0 Bus-Sleep
-unfoldable pub waitInPrepare : Mode → Mode
-waitInPrepare m =
-    mode (cond (eqb (m .wait) 1) BusSleep (m .state)) (m .requested) (m .sending) (m .filter) (m .nm) (m .wait - 1) (m .repeat)
-
--- c: the repeat timer down; at 0 Normal if requested, else Ready
-unfoldable pub repeatInRepeat : Mode → Mode
-repeatInRepeat m =
-    mode (cond (leb (m .repeat) 1) (cond (m .requested) NormalOperation ReadySleep) (m .state)) (m .requested) (m .sending)
-    (m .filter)
-    (m .nm)
-    (m .wait)
-    (m .repeat - 1)

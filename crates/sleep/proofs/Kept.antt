@@ -12,9 +12,11 @@ use Rattle.states.specs.declared.Mode.{Mode}
 use Rattle.states.specs.declared.Traffic.{Traffic}
 use Rattle.traffic.specs.declared.Setup.{Setup}
 use Rattle.decision.specs.Decision.{Call, networkRequest, networkRelease, passiveStartUp, repeatMessageRequest, disableCommunication, enableCommunication, txConfirmation, rxIndication, confirmPnAvailability, setUserData, setPnRequests, status, mainFunction, ruleAt, table}
-use Rattle.modes.specs.Mode.{enterNetwork, enterRepeat, restart, heard, enabled, nmInRepeatOrNormal, prepared, nmInReady, waitInPrepare, repeatInRepeat}
+use Rattle.modes.specs.Mode.{enterNetwork, enterRepeat, restart, heard, enabled}
+use Rattle.mode_steps.specs.ModeSteps.{nmInRepeatOrNormal, prepared, nmInReady, waitInPrepare, repeatInRepeat}
 use Rattle.transitions.specs.Transitions.{modeBy, trafficBy}
-use Rattle.traffic.specs.Traffic.{inReady, inRepeat, setupOf}
+use Rattle.traffic_steps.specs.TrafficSteps.{inReady, inRepeat}
+use Rattle.traffic.specs.Traffic.{setupOf}
 use Rattle.frames.specs.Frames.{accepted, asksRepeat}
 use Rattle.refusals.specs.Refusals.{refusedPassive, refusedState}
 use Rattle.channel.specs.Channel.{againFor, modeAfter, ruleFor}

@@ -11,7 +11,8 @@ use Rattle.config.specs.declared.Ticks.{Ticks}
 use Rattle.states.specs.declared.State.the-variants.{BusSleep, PrepareBusSleep, RepeatMessage}
 use Rattle.states.specs.declared.Mode.{Mode}
 use Rattle.decision.specs.Decision.{Call, networkRequest, networkRelease, passiveStartUp, repeatMessageRequest, disableCommunication, enableCommunication, txConfirmation, rxIndication, confirmPnAvailability, setUserData, setPnRequests, status, mainFunction, ruleAt, table}
-use Rattle.modes.specs.Mode.{mode, enterNetwork, enterRepeat, restart, heard, enabled, nmInRepeatOrNormal, prepared, nmInReady, waitInPrepare, repeatInRepeat}
+use Rattle.modes.specs.Mode.{mode, enterNetwork, enterRepeat, restart, heard, enabled}
+use Rattle.mode_steps.specs.ModeSteps.{nmInRepeatOrNormal, prepared, nmInReady, waitInPrepare, repeatInRepeat}
 use Rattle.transitions.specs.Transitions.{modeBy}
 use Rattle.frames.specs.Frames.{accepted, asksRepeat}
 use Rattle.refusals.specs.Refusals.{refusedState}

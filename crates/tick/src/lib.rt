@@ -67,7 +67,7 @@ pub fn main_function_in_place<'a>(
 {
     let state = m.state;
     let rule = decision::rule_of(state, decision::MAIN_FUNCTION);
-    let size = (frame.len() as u64) < c.layout.length;
+    let size = !(c.layout.length <= frame.len() as u64);
     let a = refusals::judge(ok, false, false, decision::is_not_here(rule), size);
     if refusals::is_done(a) {
         // Steps a to d.

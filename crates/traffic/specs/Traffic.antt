@@ -1,15 +1,14 @@
--- What each transition rule does to message and remote timers, fast count, indication and bits. It sees the mode before and
+-- What each transition rule of a call does to message and remote timers, fast count, indication and bits. It sees the mode before and
 -- after, and never changes it. Assumes nothing.
-use Prim.Native.Nat.{ℕ, _-_}
+use Prim.Native.Nat.{ℕ}
 use mathlib.Core.Bool.{Bool, true, false, cond, not, _&&_}
-use lib.Dec.{leb, ltb}
+use lib.Dec.{ltb}
 use Rattle.config.specs.declared.Config.{Config}
 use Rattle.config.specs.declared.Ticks.{Ticks}
-use Rattle.states.specs.declared.State.{State}
 use Rattle.states.specs.declared.Mode.{Mode}
 use Rattle.states.specs.declared.Traffic.{Traffic}
 use Rattle.traffic.specs.declared.Setup.{Setup}
-use Rattle.states.specs.State.{transmits, isRepeat, isNormal, isPrepare}
+use Rattle.states.specs.State.{transmits}
 
 abbrev pub traffic : ℕ → ℕ → ℕ → Bool → Bool → Bool → Traffic
 traffic m f r i b w = record { message = m; fast = f; remote = r; indicated = i; repeating = b; waking = w }
@@ -23,8 +22,6 @@ withRemote r i x = traffic (x .message) (x .fast) r i (x .repeating) (x .waking)
 -- what the rules here need of the configuration
 unfoldable pub setupOf : Config → Ticks → Setup
 setupOf c t = record { ticks = t; immediate = cond (ltb (c .immediate) 65536) (c .immediate) 0; passive = c .passive }
-
--- ---- entering
 
 -- the first frame in Repeat: after the offset, at least one tick; a passive channel sends none
 abbrev pub firstMessage : Setup → ℕ
@@ -65,22 +62,3 @@ heardInNormal again s x = cond again (toRepeat s x) (withRemote (s .ticks .remot
 
 unfoldable pub heardInReady : Bool → Setup → Traffic → Traffic
 heardInReady again s x = cond again (toRepeat s x) (withRemote (x .remote) false x)
-
--- ---- the tick
-
--- a, in Ready: with Prepare indication and active wakeup bit are cleared
-unfoldable pub inReady : State → Traffic → Traffic
-inReady after x =
-    cond (isPrepare after) (traffic (x .message) (x .fast) (x .remote) false (x .repeating) false) x
-
--- c: Repeat left: repeat bit and fast count are cleared; Normal starts the remote timer, Ready stops the message timer
-unfoldable pub inRepeat : Setup → State → Traffic → Traffic
-inRepeat s after x =
-    cond (isRepeat after) x
-    (cond (isNormal after) (traffic (x .message) 0 (watching s x) (x .indicated) false (x .waking))
-    (traffic 0 0 0 (x .indicated) false (x .waking)))
-
--- d: sending enabled, a running remote timer down; at 0 remote sleep is indicated
-unfoldable pub inNormal : Mode → Traffic → Traffic
-inNormal m x =
-    cond (m .sending && ltb 0 (x .remote)) (withRemote (x .remote - 1) (leb (x .remote) 1) x) x

@@ -1,30 +1,13 @@
-// Message and remote timers, fast count, indication and bits: the parts of the transition rules that change them.
+// Message and remote timers, fast count, indication and bits: what the transition rules of the calls change.
 //
-// Promises: each function is a definition of specs/. It sees the mode before or after a rule. Leaves to others: which rule has
-// which part (`transitions`), the mode itself (`modes`), what is told (`notes`), step f (`sending`).
-
+// Promises: each function is a definition of specs/. It sees the mode before a rule. Leaves to others: the tick (`traffic_steps`,
+// step f `sending`), which rule has which part (`transitions`), the mode itself (`modes`), what is told (`notes`).
 use config::Config;
 use config::Ticks;
 use states::Mode;
-use states::State;
 use states::Traffic;
 ghost use mathlib.Core.Path.{_≡_};
-ghost use Rattle.traffic.specs.Traffic.{
-  firstMessage,
-  heardInNormal,
-  heardInReady,
-  inNormal,
-  inReady,
-  inRepeat,
-  resumed,
-  setupOf,
-  toNormal,
-  toReady,
-  toRepeat,
-  toRepeatActive,
-  toRepeatAsked,
-  watching,
-};
+ghost use Rattle.traffic.specs.Traffic.{firstMessage, heardInNormal, heardInReady, resumed, setupOf, toNormal, toReady, toRepeat, toRepeatActive, toRepeatAsked, watching};
 
 // What the rules here need of the configuration.
 pub struct Setup {
@@ -42,8 +25,6 @@ pub fn setup_of(c: Config, t: Ticks) -> Setup
         passive: c.passive,
     }
 }
-
-// ---- entering
 
 fn first_message(s: Setup) -> u16
     ensures { λ r. ⌜ r ≡ firstMessage s ⌝ }
@@ -87,7 +68,8 @@ pub fn to_repeat_asked(s: Setup, x: Traffic) -> Traffic
     y
 }
 
-fn watching(s: Setup, x: Traffic) -> u16
+// The remote timer where Normal Operation starts it.
+pub fn watching(s: Setup, x: Traffic) -> u16
     ensures { λ r. ⌜ r ≡ watching s x ⌝ }
 {
     choice::pick16(x.indicated, 0, s.ticks.remote)
@@ -141,52 +123,5 @@ pub fn heard_in_ready(again: bool, s: Setup, x: Traffic) -> Traffic
     }
     let mut y = x;
     y.indicated = false;
-    y
-}
-
-// ---- the tick
-
-// Step a in Ready Sleep.
-pub fn in_ready(after: State, x: Traffic) -> Traffic
-    ensures { λ r. ⌜ r ≡ inReady after x ⌝ }
-{
-    let mut y = x;
-    if states::is_prepare(after) {
-        y.indicated = false;
-        y.waking = false;
-        return y;
-    }
-    y
-}
-
-// Step c.
-pub fn in_repeat(s: Setup, after: State, x: Traffic) -> Traffic
-    ensures { λ r. ⌜ r ≡ inRepeat s after x ⌝ }
-{
-    let mut y = x;
-    if states::is_repeat(after) {
-        return y;
-    }
-    y.fast = 0;
-    y.repeating = false;
-    if states::is_normal(after) {
-        y.remote = watching(s, x);
-        return y;
-    }
-    y.message = 0;
-    y.remote = 0;
-    y
-}
-
-// Step d.
-pub fn in_normal(m: Mode, x: Traffic) -> Traffic
-    ensures { λ r. ⌜ r ≡ inNormal m x ⌝ }
-{
-    let mut y = x;
-    if m.sending & (0 < x.remote) {
-        y.remote = ticks::down(x.remote);
-        y.indicated = x.remote <= 1;
-        return y;
-    }
     y
 }

@@ -29,22 +29,10 @@ use Rattle.decision.specs.declared.Rule.the-variants.{
   TickInNormal,
   TickInReady,
 }
-use Rattle.modes.specs.Mode.{
-  enabled,
-  enterNetwork,
-  enterRepeat,
-  heard,
-  nmInReady,
-  nmInRepeatOrNormal,
-  repeatInRepeat,
-  restart,
-  waitInPrepare,
-  withFilter,
-  withRequested,
-  withSending,
-  withState,
-}
-use Rattle.traffic.specs.Traffic.{heardInNormal, heardInReady, inNormal, inReady, inRepeat, resumed, toNormal, toReady, toRepeat, toRepeatActive, toRepeatAsked}
+use Rattle.modes.specs.Mode.{enabled, enterNetwork, enterRepeat, heard, restart, withFilter, withRequested, withSending, withState}
+use Rattle.mode_steps.specs.ModeSteps.{nmInReady, nmInRepeatOrNormal, repeatInRepeat, waitInPrepare}
+use Rattle.traffic.specs.Traffic.{heardInNormal, heardInReady, resumed, toNormal, toReady, toRepeat, toRepeatActive, toRepeatAsked}
+use Rattle.traffic_steps.specs.TrafficSteps.{inNormal, inReady, inRepeat}
 
 -- the mode after a rule; `again` says that a PDU asks for Repeat
 unfoldable pub modeBy : Rule → Bool → Ticks → Mode → Mode

@@ -55,10 +55,13 @@ pub fn mode_by(rule: Rule, again: bool, t: Ticks, m: Mode) -> Mode
             n.filter = true;
             n
         }
-        Rule::TickInPrepare => modes::wait_in_prepare(m),
-        Rule::TickInRepeat => modes::repeat_in_repeat(modes::nm_in_repeat_or_normal(t, m)),
-        Rule::TickInNormal => modes::nm_in_repeat_or_normal(t, m),
-        Rule::TickInReady => modes::nm_in_ready(t, m),
+        Rule::TickInPrepare => mode_steps::wait_in_prepare(m),
+        Rule::TickInRepeat => mode_steps::repeat_in_repeat(mode_steps::nm_in_repeat_or_normal(
+            t,
+            m,
+        )),
+        Rule::TickInNormal => mode_steps::nm_in_repeat_or_normal(t, m),
+        Rule::TickInReady => mode_steps::nm_in_ready(t, m),
     }
 }
 
@@ -93,8 +96,8 @@ pub fn traffic_by(
         Rule::HeardInReady => traffic::heard_in_ready(again, s, x),
         Rule::FilterOn => x,
         Rule::TickInPrepare => x,
-        Rule::TickInRepeat => traffic::in_repeat(s, state, x),
-        Rule::TickInNormal => traffic::in_normal(before, x),
-        Rule::TickInReady => traffic::in_ready(state, x),
+        Rule::TickInRepeat => traffic_steps::in_repeat(s, state, x),
+        Rule::TickInNormal => traffic_steps::in_normal(before, x),
+        Rule::TickInReady => traffic_steps::in_ready(state, x),
     }
 }

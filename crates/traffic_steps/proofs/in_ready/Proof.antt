@@ -1,7 +1,7 @@
--- `traffic::in_ready` meets its contract. Assumes nothing.
-use Rattle.traffic.specs.Traffic.{inReady}
-use Rattle.traffic.proofs.in_ready.Statement.{statement}
-use Rattle.traffic.proofs.in_ready.Tie as tie
+-- `traffic_steps::in_ready` meets its contract. Assumes nothing.
+use Rattle.traffic_steps.specs.TrafficSteps.{inReady}
+use Rattle.traffic_steps.proofs.in_ready.Statement.{statement}
+use Rattle.traffic_steps.proofs.in_ready.Tie as tie
 
 returns : tie.Need-returns
 unfolding inReady

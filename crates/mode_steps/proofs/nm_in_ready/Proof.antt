@@ -1,8 +1,8 @@
--- `modes::nm_in_ready` meets its contract. Assumes nothing.
+-- `mode_steps::nm_in_ready` meets its contract. Assumes nothing.
 use borrow.Author.Tests.{le-leb, lt-leb}
-use Rattle.modes.specs.Mode.{nmInReady}
-use Rattle.modes.proofs.nm_in_ready.Statement.{statement}
-use Rattle.modes.proofs.nm_in_ready.Tie as tie
+use Rattle.mode_steps.specs.ModeSteps.{nmInReady}
+use Rattle.mode_steps.proofs.nm_in_ready.Statement.{statement}
+use Rattle.mode_steps.proofs.nm_in_ready.Tie as tie
 
 returns : tie.Need-returns
 unfolding nmInReady

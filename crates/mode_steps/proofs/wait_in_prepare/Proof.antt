@@ -1,8 +1,8 @@
--- `modes::wait_in_prepare` meets its contract. Assumes nothing.
+-- `mode_steps::wait_in_prepare` meets its contract. Assumes nothing.
 use borrow.Author.Tests.{eq-eqb, ne-eqb}
-use Rattle.modes.specs.Mode.{waitInPrepare}
-use Rattle.modes.proofs.wait_in_prepare.Statement.{statement}
-use Rattle.modes.proofs.wait_in_prepare.Tie as tie
+use Rattle.mode_steps.specs.ModeSteps.{waitInPrepare}
+use Rattle.mode_steps.proofs.wait_in_prepare.Statement.{statement}
+use Rattle.mode_steps.proofs.wait_in_prepare.Tie as tie
 
 returns : tie.Need-returns
 unfolding waitInPrepare

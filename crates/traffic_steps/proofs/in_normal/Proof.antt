@@ -1,7 +1,7 @@
--- `traffic::in_normal` meets its contract. Assumes nothing.
-use Rattle.traffic.specs.Traffic.{inNormal}
-use Rattle.traffic.proofs.in_normal.Statement.{statement}
-use Rattle.traffic.proofs.in_normal.Tie as tie
+-- `traffic_steps::in_normal` meets its contract. Assumes nothing.
+use Rattle.traffic_steps.specs.TrafficSteps.{inNormal}
+use Rattle.traffic_steps.proofs.in_normal.Statement.{statement}
+use Rattle.traffic_steps.proofs.in_normal.Tie as tie
 
 returns : tie.Need-returns
 unfolding inNormal

@@ -1,8 +1,8 @@
--- `modes::repeat_in_repeat` meets its contract. Assumes nothing.
+-- `mode_steps::repeat_in_repeat` meets its contract. Assumes nothing.
 use borrow.Author.Tests.{le-leb, lt-leb}
-use Rattle.modes.specs.Mode.{repeatInRepeat}
-use Rattle.modes.proofs.repeat_in_repeat.Statement.{statement}
-use Rattle.modes.proofs.repeat_in_repeat.Tie as tie
+use Rattle.mode_steps.specs.ModeSteps.{repeatInRepeat}
+use Rattle.mode_steps.proofs.repeat_in_repeat.Statement.{statement}
+use Rattle.mode_steps.proofs.repeat_in_repeat.Tie as tie
 
 returns : tie.Need-returns
 unfolding repeatInRepeat

@@ -1,7 +1,7 @@
--- `modes::nm_in_repeat_or_normal` meets its contract. Assumes nothing.
-use Rattle.modes.specs.Mode.{nmInRepeatOrNormal}
-use Rattle.modes.proofs.nm_in_repeat_or_normal.Statement.{statement}
-use Rattle.modes.proofs.nm_in_repeat_or_normal.Tie as tie
+-- `mode_steps::nm_in_repeat_or_normal` meets its contract. Assumes nothing.
+use Rattle.mode_steps.specs.ModeSteps.{nmInRepeatOrNormal}
+use Rattle.mode_steps.proofs.nm_in_repeat_or_normal.Statement.{statement}
+use Rattle.mode_steps.proofs.nm_in_repeat_or_normal.Tie as tie
 
 returns : tie.Need-returns
 unfolding nmInRepeatOrNormal

@@ -1,7 +1,7 @@
--- `traffic::in_repeat` meets its contract. Assumes nothing.
-use Rattle.traffic.specs.Traffic.{inRepeat}
-use Rattle.traffic.proofs.in_repeat.Statement.{statement}
-use Rattle.traffic.proofs.in_repeat.Tie as tie
+-- `traffic_steps::in_repeat` meets its contract. Assumes nothing.
+use Rattle.traffic_steps.specs.TrafficSteps.{inRepeat}
+use Rattle.traffic_steps.proofs.in_repeat.Statement.{statement}
+use Rattle.traffic_steps.proofs.in_repeat.Tie as tie
 
 returns : tie.Need-returns
 unfolding inRepeat
