@@ -3,21 +3,8 @@ use Prim.Native.Nat.{ℕ}
 use mathlib.Core.List.{List}
 use lib.ListN.{take, drop}
 use Rattle.decision.specs.Decision as calls
-use Rattle.commands.specs.declared.Command.{Command}
-use Rattle.commands.specs.declared.Command.the-variants.{
-  NetworkRequest,
-  NetworkRelease,
-  PassiveStartUp,
-  RepeatMessageRequest,
-  DisableCommunication,
-  EnableCommunication,
-  TxConfirmation,
-  RxIndication,
-  ConfirmPnAvailability,
-  SetUserData,
-  SetPnRequests,
-  MainFunction,
-}
+use Rattle.command_names.specs.declared.Command.{Command}
+use Rattle.command_names.specs.declared.Command.the-variants.{NetworkRequest, NetworkRelease, PassiveStartUp, RepeatMessageRequest, DisableCommunication, EnableCommunication, TxConfirmation, RxIndication, ConfirmPnAvailability, SetUserData, SetPnRequests, MainFunction}
 use Rattle.channel.specs.declared.state.Channel.{Channel}
 use Rattle.channel.specs.Channel.{Ticked, frameAfter, replied, ticked}
 

@@ -4,7 +4,7 @@
 // (`commands`), a channel in parts (`dispatch_in_place`), and printing the reply (`replay`).
 use channel::state::Channel;
 use channel::state::Reply;
-use commands::Command;
+use command_names::Command;
 ghost use mathlib.Core.Path.{_≡_};
 ghost use lib.ListN.{length};
 ghost use Rattle.channel.specs.Channel.{ticked};

@@ -3,7 +3,7 @@
 // Promises: what `replied` gives for the call on the channel of these parts, and every byte of the lent frame. Leaves to
 // others: judging whether the channel is sound, of which the caller hands in the result (`ok`), and printing (`replay`).
 use channel::state::Effect;
-use commands::Command;
+use command_names::Command;
 use config::Config;
 use config::PDU_MOST;
 use config::PNC_MOST;

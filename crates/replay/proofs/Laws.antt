@@ -2,8 +2,8 @@
 use mathlib.Core.Path.{_≡_, refl}
 use mathlib.Core.List.{List}
 use Prim.Native.Nat.{ℕ}
-use Rattle.commands.specs.declared.Asked.{Asked}
-use Rattle.commands.specs.declared.Asked.the-variants.{Unreadable, Call}
+use Rattle.command_names.specs.declared.Asked.{Asked}
+use Rattle.command_names.specs.declared.Asked.the-variants.{Unreadable, Call}
 use Rattle.runs.specs.declared.Phase.the-variants.{Running}
 use Rattle.runs.specs.declared.Run.{Run}
 use Rattle.runs.specs.Runs.{passed, runOf}

@@ -9,9 +9,9 @@ use Rattle.answers.specs.Answers.{numberOf}
 use Rattle.channel.specs.declared.state.Channel.{Channel}
 use Rattle.channel.specs.declared.state.Reply.{Reply}
 use Rattle.channel.specs.Channel.{frameAfter, replied, trafficMoved}
-use Rattle.commands.specs.declared.Command.{Command}
-use Rattle.commands.specs.declared.Asked.{Asked}
-use Rattle.commands.specs.declared.Asked.the-variants.{Unreadable, Call}
+use Rattle.command_names.specs.declared.Command.{Command}
+use Rattle.command_names.specs.declared.Asked.{Asked}
+use Rattle.command_names.specs.declared.Asked.the-variants.{Unreadable, Call}
 use Rattle.config.specs.declared.Config.{Config}
 use Rattle.config.specs.Ranges.{userStartOf}
 use Rattle.decision.specs.Decision as calls

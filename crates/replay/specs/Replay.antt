@@ -6,9 +6,9 @@ use Rattle.answers.specs.Answers.{numberOf}
 use Rattle.channel.specs.declared.state.Reply.{Reply}
 use Rattle.channel.specs.Channel.{Ticked}
 use Rattle.channel.specs.Parts.{channelOf}
-use Rattle.commands.specs.declared.Command.{Command}
-use Rattle.commands.specs.declared.Asked.{Asked}
-use Rattle.commands.specs.declared.Asked.the-variants.{Unreadable, Call}
+use Rattle.command_names.specs.declared.Command.{Command}
+use Rattle.command_names.specs.declared.Asked.{Asked}
+use Rattle.command_names.specs.declared.Asked.the-variants.{Unreadable, Call}
 use Rattle.commands.specs.Commands.{Reading, reading}
 use Rattle.config.specs.declared.Config.{Config}
 use Rattle.config.specs.declared.Ticks.{Ticks}

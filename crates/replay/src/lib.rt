@@ -3,8 +3,8 @@
 // Promises: the run after any such line and the text that it prints, by the definitions of specs/Replay, refused and
 // unreadable lines included. Leaves to others: the configuration's lines (`config_lines`) and the run over all lines
 // (`trace`).
-use commands::Asked;
-use commands::Command;
+use command_names::Asked;
+use command_names::Command;
 use config::Config;
 use config::PDU_MOST;
 use config::PNC_MOST;

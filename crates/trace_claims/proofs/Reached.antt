@@ -9,8 +9,8 @@ use borrow.Author.Tests.{eqb-true}
 use Rattle.channel.specs.declared.state.Channel.{Channel}
 use Rattle.answers.specs.declared.Answer.the-variants.{Done, Rule}
 use Rattle.channel.specs.Channel.{fresh, initialised, started, zero}
-use Rattle.commands.specs.declared.Asked.{Asked}
-use Rattle.commands.specs.declared.Asked.the-variants.{Unreadable, Call}
+use Rattle.command_names.specs.declared.Asked.{Asked}
+use Rattle.command_names.specs.declared.Asked.the-variants.{Unreadable, Call}
 use Rattle.config.specs.declared.Config.{Config}
 use Rattle.rules.specs.Rules.{firstBroken}
 use Rattle.time_rules.specs.TimeRules.{ticksFor}

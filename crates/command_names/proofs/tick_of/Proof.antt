@@ -1,9 +1,9 @@
--- `commands::tick_of` meets its contract. Assumes nothing.
+-- `command_names::tick_of` meets its contract. Assumes nothing.
 use borrow.Author.Needs.{needs}
 use borrow.Author.Tests.{eq-eqb, ne-eqb}
-use Rattle.commands.specs.Commands.{tickOf}
-use Rattle.commands.proofs.tick_of.Statement.{statement}
-use Rattle.commands.proofs.tick_of.Tie as tie
+use Rattle.command_names.specs.CommandNames.{tickOf}
+use Rattle.command_names.proofs.tick_of.Statement.{statement}
+use Rattle.command_names.proofs.tick_of.Tie as tie
 
 returns : tie.Need-returns
 unfolding tickOf

@@ -1,12 +1,12 @@
--- `commands::alone` meets its contract: a name by its number, or one outside the table's calls. Assumes nothing.
+-- `command_names::alone` meets its contract: a name by its number, or one outside the table's calls. Assumes nothing.
 use mathlib.Core.Path.{sym}
 use native.Mathlib.Omega.{arith}
 use lib.ListN.{List·getD-eq-default}
 use Rattle.decision.proofs.Table.{next}
-use Rattle.commands.specs.declared.Asked.the-variants.{Unreadable}
-use Rattle.commands.specs.Commands.{alone, aloneTable}
-use Rattle.commands.proofs.alone.Statement.{statement}
-use Rattle.commands.proofs.alone.Tie as tie
+use Rattle.command_names.specs.declared.Asked.the-variants.{Unreadable}
+use Rattle.command_names.specs.CommandNames.{alone, aloneTable}
+use Rattle.command_names.proofs.alone.Statement.{statement}
+use Rattle.command_names.proofs.alone.Tie as tie
 
 pub alone-spec : {M : Type 1} → statement M
 unfolding alone

@@ -1,8 +1,8 @@
--- `commands::with_bytes` meets its contract. Assumes nothing.
+-- `command_names::with_bytes` meets its contract. Assumes nothing.
 use borrow.Author.Tests.{eq-eqb, ne-eqb}
-use Rattle.commands.specs.Commands.{withBytes}
-use Rattle.commands.proofs.with_bytes.Statement.{statement}
-use Rattle.commands.proofs.with_bytes.Tie as tie
+use Rattle.command_names.specs.CommandNames.{withBytes}
+use Rattle.command_names.proofs.with_bytes.Statement.{statement}
+use Rattle.command_names.proofs.with_bytes.Tie as tie
 
 returns : tie.Need-returns
 unfolding withBytes
