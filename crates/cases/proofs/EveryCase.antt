@@ -31,7 +31,8 @@ use Rattle.notes.specs.Notes.{firstBy, secondBy}
 use Rattle.kept_ticks.specs.KeptTicks.{configured}
 use Rattle.conditions.specs.Conditions.{modeSound, passiveSound, trafficSound}
 use Rattle.soundness.specs.Sound.{scalarsSound}
-use Rattle.frames.specs.Frames.{accepted, asksRepeat, loadedBy, sentLoaded}
+use Rattle.heard.specs.Heard.{accepted, asksRepeat, loadedBy}
+use Rattle.frames.specs.Frames.{sentLoaded}
 use Rattle.refusals.specs.Refusals.{refusal}
 use Rattle.channel.specs.Channel.{
   againFor,

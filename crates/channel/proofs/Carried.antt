@@ -13,7 +13,8 @@ use Rattle.vectors.specs.Vectors.{vectorsDiffer}
 use Rattle.vectors.proofs.Vectors.{differs-not}
 use Rattle.decision.specs.declared.Rule.the-variants.{Keep}
 use Rattle.decision.specs.Decision.{Call, rxIndication, mainFunction, ruleOf}
-use Rattle.frames.specs.Frames.{accepted, asksRepeat, framed, loadedBy, sentLoaded}
+use Rattle.heard.specs.Heard.{accepted, asksRepeat, loadedBy}
+use Rattle.frames.specs.Frames.{framed, sentLoaded}
 use Rattle.transitions.specs.Transitions.{modeBy, trafficBy}
 use Rattle.traffic.specs.Traffic.{setupOf}
 use Rattle.sending.specs.Sending.{framing}

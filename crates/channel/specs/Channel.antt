@@ -39,7 +39,8 @@ use Rattle.traffic.specs.Traffic.{traffic, setupOf}
 use Rattle.sending.specs.Sending.{framing, isDue}
 use Rattle.notes.specs.Notes.{firstBy, secondBy}
 use Rattle.soundness.specs.Sound.{soundOf}
-use Rattle.frames.specs.Frames.{accepted, asksRepeat, framed, loadedBy, sentLoaded}
+use Rattle.heard.specs.Heard.{accepted, asksRepeat, loadedBy}
+use Rattle.frames.specs.Frames.{framed, sentLoaded}
 use Rattle.refusals.specs.Refusals.{refusal, isDone, judged}
 
 abbrev pub notes : Note → Note → Bool → Bool → Notes

@@ -20,7 +20,7 @@ pub fn set_user_data(mut ch: Channel, bytes: &[u8]) -> Reply
     let size = bytes.len() as u64 != config::user_length(c);
     let a = refusals::judge(ok, c.passive, false, decision::is_not_here(rule), size);
     if refusals::is_done(a) {
-        frames::store(bytes, &mut ch.own.user);
+        tables::store(bytes, &mut ch.own.user);
         return channel::moved(ch, rule, false, false, false);
     }
     channel::refused(ch, a)
@@ -39,7 +39,7 @@ pub fn set_pn_requests(mut ch: Channel, bytes: &[u8]) -> Reply
     let size = bytes.len() as u64 != c.pn.length;
     let a = refusals::judge(ok, c.passive, off, decision::is_not_here(rule), size);
     if refusals::is_done(a) {
-        frames::store(bytes, &mut ch.own.requests);
+        tables::store(bytes, &mut ch.own.requests);
         return channel::moved(ch, rule, false, false, false);
     }
     channel::refused(ch, a)

@@ -17,7 +17,7 @@ use Rattle.mode_steps.specs.ModeSteps.{nmInRepeatOrNormal, prepared, nmInReady,
 use Rattle.transitions.specs.Transitions.{modeBy, trafficBy}
 use Rattle.traffic_steps.specs.TrafficSteps.{inReady, inRepeat}
 use Rattle.traffic.specs.Traffic.{setupOf}
-use Rattle.frames.specs.Frames.{accepted, asksRepeat}
+use Rattle.heard.specs.Heard.{accepted, asksRepeat}
 use Rattle.refusals.specs.Refusals.{refusedPassive, refusedState}
 use Rattle.channel.specs.Channel.{againFor, modeAfter, ruleFor}
 use Rattle.sleep.specs.Summary.{Summary}

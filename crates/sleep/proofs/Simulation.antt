@@ -14,7 +14,7 @@ use Rattle.decision.specs.Decision.{Call, networkRequest, networkRelease, passi
 use Rattle.modes.specs.Mode.{mode, enterNetwork, enterRepeat, restart, heard, enabled}
 use Rattle.mode_steps.specs.ModeSteps.{nmInRepeatOrNormal, prepared, nmInReady, waitInPrepare, repeatInRepeat}
 use Rattle.transitions.specs.Transitions.{modeBy}
-use Rattle.frames.specs.Frames.{accepted, asksRepeat}
+use Rattle.heard.specs.Heard.{accepted, asksRepeat}
 use Rattle.refusals.specs.Refusals.{refusedState}
 use Rattle.channel.specs.Channel.{againFor, modeAfter, ruleFor}
 use Rattle.sleep.specs.Summary.{Since, none, ago, Summary, summary, below, networkState, shown, turned}

@@ -42,7 +42,8 @@ use Rattle.sending.specs.Sending.{framing}
 use Rattle.kept_ticks.specs.KeptTicks.{configured, sameTicks}
 use Rattle.conditions.specs.Conditions.{modeSound, only, passiveSound}
 use Rattle.soundness.specs.Sound.{scalarsSound, timersSound}
-use Rattle.frames.specs.Frames.{accepted, cbvOf, loadedBy, pnOf, sentLoaded}
+use Rattle.heard.specs.Heard.{accepted, cbvOf, loadedBy, pnOf}
+use Rattle.frames.specs.Frames.{sentLoaded}
 use Rattle.refusals.specs.Refusals.{refusal, refusedPassive, isDone}
 use Rattle.channel.specs.declared.state.Own.{Own}
 use Rattle.channel.specs.declared.state.Channel.{Channel}

@@ -21,7 +21,7 @@ use Rattle.decision.specs.Decision.{
   status,
   mainFunction,
 }
-use Rattle.frames.specs.Frames.{accepted}
+use Rattle.heard.specs.Heard.{accepted}
 use Rattle.refusals.specs.Refusals.{refusal, isDone}
 use Rattle.channel.specs.Channel.{isTick}
 use Rattle.sleep.specs.Summary.{Summary, keepsAwake, shown, summarised}

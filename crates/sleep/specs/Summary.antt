@@ -31,7 +31,7 @@ use Rattle.decision.specs.Decision.{
   status,
   mainFunction,
 }
-use Rattle.frames.specs.Frames.{accepted, asksRepeat}
+use Rattle.heard.specs.Heard.{accepted, asksRepeat}
 use Rattle.refusals.specs.Refusals.{refusal, isDone}
 use Rattle.channel.specs.Channel.{isTick}
 

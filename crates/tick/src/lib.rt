@@ -80,13 +80,13 @@ pub fn main_function_in_place<'a>(
         let sent = taken & sending::is_due(s, after, x);
         let y = sending::framing(s, after, taken, x);
         // Step e, and what a sent frame loads.
-        let er = frames::count_down(era);
+        let er = tables::count_down(era);
         if sent {
             let ei = frames::load_sent(c, t.reset, requests, eira);
             frames::send(c, x, requests, user, frame);
             return tick_effect(after, y, first, second, ei, er, true);
         }
-        let ei = frames::count_down(eira);
+        let ei = tables::count_down(eira);
         return tick_effect(after, y, first, second, ei, er, false);
     }
     channel::unmoved(m, old, a)

@@ -1,10 +1,10 @@
--- `frames::load_heard` meets its contract. Assumes nothing.
+-- `heard::load_heard` meets its contract. Assumes nothing.
 use mathlib.Core.Path.{refl, sym, _∙_}
 use borrow.Author.Needs.{needs}
-use Rattle.frames.specs.Frames.{loadedBy}
+use Rattle.heard.specs.Heard.{loadedBy}
 use Rattle.vectors.proofs.Vectors.{differs-not}
-use Rattle.frames.proofs.load_heard.Statement.{statement}
-use Rattle.frames.proofs.load_heard.Tie as tie
+use Rattle.heard.proofs.load_heard.Statement.{statement}
+use Rattle.heard.proofs.load_heard.Tie as tie
 
 returns : tie.Need-returns
 unfolding loadedBy

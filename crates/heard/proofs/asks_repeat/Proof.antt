@@ -1,7 +1,7 @@
--- `frames::asks_repeat` meets its contract. Assumes nothing.
-use Rattle.frames.specs.Frames.{asksRepeat}
-use Rattle.frames.proofs.asks_repeat.Statement.{statement}
-use Rattle.frames.proofs.asks_repeat.Tie as tie
+-- `heard::asks_repeat` meets its contract. Assumes nothing.
+use Rattle.heard.specs.Heard.{asksRepeat}
+use Rattle.heard.proofs.asks_repeat.Statement.{statement}
+use Rattle.heard.proofs.asks_repeat.Tie as tie
 
 returns : tie.Need-returns
 unfolding asksRepeat

@@ -1,8 +1,8 @@
--- `frames::accepted` meets its contract. Assumes nothing.
-use Rattle.frames.specs.Frames.{accepted}
+-- `heard::accepted` meets its contract. Assumes nothing.
+use Rattle.heard.specs.Heard.{accepted}
 use borrow.Author.Needs.{needs}
-use Rattle.frames.proofs.accepted.Statement.{statement}
-use Rattle.frames.proofs.accepted.Tie as tie
+use Rattle.heard.proofs.accepted.Statement.{statement}
+use Rattle.heard.proofs.accepted.Tie as tie
 
 returns : tie.Need-returns
 unfolding accepted
