@@ -3,7 +3,7 @@ use mathlib.Core.Path.{_≡_, refl, sym, subst, ap, _∙_}
 use mathlib.Core.List.{List, [], _∷_}
 use Prim.Native.Nat.{ℕ}
 use Rattle.print.proofs.Wrote.{Left, left-start, left-went, left-rest, wrote-none}
-use Rattle.text.specs.Runs.{after, outs}
+use Rattle.blocks.specs.Runs.{after, outs}
 use Rattle.runs.specs.declared.Phase.{Phase}
 use Rattle.runs.specs.declared.Phase.the-variants.{Running}
 use Rattle.runs.specs.declared.Run.{Run}

@@ -1,7 +1,7 @@
 -- What lines of a trace come to, one behind the other. Assumes nothing.
 use mathlib.Core.List.{List}
 use Prim.Native.Nat.{ℕ}
-use Rattle.text.specs.Runs.{after, outs}
+use Rattle.blocks.specs.Runs.{after, outs}
 use Rattle.runs.specs.declared.Run.{Run}
 use Rattle.runs.specs.Runs.{Outcome, outcome}
 use Rattle.trace_line.specs.TraceLine.{stepOf, textOf}

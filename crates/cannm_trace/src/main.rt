@@ -11,7 +11,7 @@ use trace::OUTPUT;
 ghost use mathlib.Core.Path.{_≡_};
 ghost use Prim.Native.Nat.{_+_, _≤_};
 ghost use lib.ListN.{length};
-ghost use Rattle.text.specs.Blocks.{lineMost};
+ghost use Rattle.blocks.specs.Blocks.{lineMost};
 
 // ---- reading
 

@@ -23,7 +23,8 @@ use Rattle.vectors.specs.Vectors.{vectorsDiffer}
 use Rattle.decision.specs.Decision.{ruleAt, table}
 use Rattle.modes.specs.Mode.{enabled, enterNetwork, enterRepeat, heard, restart}
 use Rattle.mode_steps.specs.ModeSteps.{nmInReady, nmInRepeatOrNormal, prepared, repeatInRepeat, waitInPrepare}
-use Rattle.transitions.specs.Transitions.{modeBy, trafficBy}
+use Rattle.mode_transitions.specs.ModeTransitions.{modeBy}
+use Rattle.traffic_transitions.specs.TrafficTransitions.{trafficBy}
 use Rattle.traffic_steps.specs.TrafficSteps.{inNormal, inReady, inRepeat}
 use Rattle.traffic.specs.Traffic.{setupOf, toRepeat}
 use Rattle.sending.specs.Sending.{counts, framing, isDue}

@@ -15,7 +15,8 @@ use Rattle.decision.specs.declared.Rule.the-variants.{Keep}
 use Rattle.decision.specs.Decision.{Call, rxIndication, mainFunction, ruleOf}
 use Rattle.heard.specs.Heard.{accepted, asksRepeat, loadedBy}
 use Rattle.frames.specs.Frames.{framed, sentLoaded}
-use Rattle.transitions.specs.Transitions.{modeBy, trafficBy}
+use Rattle.mode_transitions.specs.ModeTransitions.{modeBy}
+use Rattle.traffic_transitions.specs.TrafficTransitions.{trafficBy}
 use Rattle.traffic.specs.Traffic.{setupOf}
 use Rattle.sending.specs.Sending.{framing}
 use Rattle.notes.specs.Notes.{firstBy, secondBy}

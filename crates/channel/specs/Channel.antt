@@ -34,7 +34,8 @@ use Rattle.decision.specs.declared.Rule
 use Rattle.decision.specs.declared.Rule.the-variants.{Keep}
 use Rattle.decision.specs.Decision.{Call, networkRequest, networkRelease, passiveStartUp, repeatMessageRequest, disableCommunication, enableCommunication, txConfirmation, rxIndication, confirmPnAvailability, setUserData, setPnRequests, status, mainFunction, callNumber, ruleOf}
 use Rattle.modes.specs.Mode.{mode}
-use Rattle.transitions.specs.Transitions.{modeBy, trafficBy}
+use Rattle.mode_transitions.specs.ModeTransitions.{modeBy}
+use Rattle.traffic_transitions.specs.TrafficTransitions.{trafficBy}
 use Rattle.traffic.specs.Traffic.{traffic, setupOf}
 use Rattle.sending.specs.Sending.{framing, isDue}
 use Rattle.notes.specs.Notes.{firstBy, secondBy}

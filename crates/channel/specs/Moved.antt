@@ -12,7 +12,8 @@ use Rattle.states.specs.declared.Note.{Note}
 use Rattle.states.specs.declared.Traffic.{Traffic}
 use Rattle.channel.specs.declared.state.Reply.{Reply}
 use Rattle.decision.specs.declared.Rule.{Rule}
-use Rattle.transitions.specs.Transitions.{modeBy, trafficBy}
+use Rattle.mode_transitions.specs.ModeTransitions.{modeBy}
+use Rattle.traffic_transitions.specs.TrafficTransitions.{trafficBy}
 use Rattle.traffic.specs.Traffic.{setupOf}
 use Rattle.notes.specs.Notes.{firstBy, secondBy}
 use Rattle.decision.specs.declared.Rule.the-variants.{Keep}

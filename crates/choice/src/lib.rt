@@ -3,6 +3,7 @@
 //
 // Promises: each function is the library's operation of the same meaning. Leaves to others: what is chosen, and why.
 ghost use mathlib.Core.Path.{_≡_};
+ghost use Prim.Native.Nat.{min};
 ghost use lib.Dec.{ltb};
 ghost use mathlib.Core.Bool.{cond};
 
@@ -32,4 +33,11 @@ pub fn narrow16(x: u64) -> u16
         return x as u16;
     }
     0
+}
+
+// The lesser of two sizes.
+pub fn lesser(a: usize, b: usize) -> usize
+    ensures { λ r. ⌜ r ≡ min a b ⌝ }
+{
+    if a < b { a } else { b }
 }

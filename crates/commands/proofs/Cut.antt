@@ -8,7 +8,7 @@ use lib.Dec.{ltb}
 use lib.ListN.{length}
 use lib.Seq.{length-take-le, take-all}
 use borrow.Author.Tests.{lt-ltb, ltb-true, ltb-false}
-use Rattle.text.specs.Blocks.{cut, lineMost}
+use Rattle.blocks.specs.Blocks.{cut, lineMost}
 use Rattle.commands.specs.Commands.{reading}
 
 pub reading-cut : (l bytes : List ℕ) → reading (cut l) bytes ≡ reading l bytes

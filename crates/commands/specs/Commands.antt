@@ -7,7 +7,7 @@ use lib.ListN.{length, take, drop}
 use lib.Seq.{sets}
 use Rattle.text.specs.Filled.{Filled, filled}
 use Rattle.text.specs.Lines.{until}
-use Rattle.text.specs.Blocks.{lineMost}
+use Rattle.blocks.specs.Blocks.{lineMost}
 use Rattle.fields.specs.Fields.{tab}
 use Rattle.hex.specs.Hex.{hexPairs}
 use Rattle.names.specs.Names.{callOf}

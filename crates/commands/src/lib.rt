@@ -33,7 +33,7 @@ fn argued(name: usize, a: &[u8], bytes: &mut [u8]) -> Asked
 pub fn read(l: &[u8], bytes: &mut [u8]) -> Asked
     ensures { λ r. ⌜ readAs r (now (bytes .exit)) ≡ reading (now (l .entry)) (now (bytes .entry)) ⌝ }
 {
-    if text::LINE_MOST < l.len() {
+    if blocks::LINE_MOST < l.len() {
         return Asked::Unreadable;
     }
     let end = fields::field_end(l, 0);

@@ -3,7 +3,7 @@ use mathlib.Core.List.{List}
 use Prim.Native.Nat.{ℕ}
 use lib.ListN.{length}
 use borrow.Author.Tests.{lt-leb}
-use Rattle.text.specs.Blocks.{cut, lineMost}
+use Rattle.blocks.specs.Blocks.{cut, lineMost}
 use Rattle.settings.specs.Settings.{isLine}
 use Rattle.settings.proofs.Cut.{Alike, alike-cut}
 use Rattle.config_line.specs.ConfigLine.{readConfig}

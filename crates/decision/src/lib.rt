@@ -1,7 +1,7 @@
 // The calls by their numbers, and which transition rule a call brings in a state: one decision over both.
 //
 // Promises: each function is a definition of specs/. Leaves to others: the states (`states`), what a rule does
-// (`transitions`), and what a call is refused with (`refusals`).
+// (`mode_transitions`), and what a call is refused with (`refusals`).
 use states::State;
 ghost use mathlib.Core.Path.{_≡_};
 ghost use mathlib.Core.Bool.{cond};

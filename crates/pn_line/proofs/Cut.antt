@@ -4,7 +4,7 @@ use mathlib.Core.List.{List}
 use Prim.Native.Nat.{ℕ}
 use lib.ListN.{length}
 use borrow.Author.Tests.{lt-leb}
-use Rattle.text.specs.Blocks.{cut, lineMost}
+use Rattle.blocks.specs.Blocks.{cut, lineMost}
 use Rattle.config.specs.declared.Config.{Config}
 use Rattle.settings.specs.Settings.{isLine}
 use Rattle.settings.proofs.Cut.{Alike, alike-cut, name-cut}

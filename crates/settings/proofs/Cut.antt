@@ -8,7 +8,7 @@ use lib.Dec.{eqb, leb}
 use lib.ListN.{length, take}
 use lib.Seq.{length-take-le, take-all}
 use borrow.Author.Tests.{leb-true, leb-false}
-use Rattle.text.specs.Blocks.{cut, lineMost}
+use Rattle.blocks.specs.Blocks.{cut, lineMost}
 use Rattle.text.specs.Lines.{until}
 use Rattle.fields.specs.Fields.{tab}
 use Rattle.names.specs.Names.{callOf, packed}

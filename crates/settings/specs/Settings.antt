@@ -6,7 +6,7 @@ use lib.Dec.{eqb, leb, ltb}
 use lib.ListN.{length, take, replicate}
 use lib.Seq.{sets}
 use Rattle.text.specs.Lines.{until}
-use Rattle.text.specs.Blocks.{lineMost}
+use Rattle.blocks.specs.Blocks.{lineMost}
 use Rattle.fields.specs.Fields.{tab}
 use Rattle.fields.specs.Numbers.{dashNumber, tokensOf}
 use Rattle.names.specs.Names.{callOf}

@@ -60,5 +60,5 @@ pub fn name_of(l: &[u8]) -> usize
 pub fn is_line(l: &[u8], name: usize, must: usize, count: usize) -> bool
     ensures { λ r. ⌜ r ≡ isLine (now (l .entry)) name must count ⌝ }
 {
-    (l.len() <= text::LINE_MOST) & (name_of(l) == name) & (count == must)
+    (l.len() <= blocks::LINE_MOST) & (name_of(l) == name) & (count == must)
 }

@@ -14,7 +14,8 @@ use Rattle.traffic.specs.declared.Setup.{Setup}
 use Rattle.decision.specs.Decision.{Call, networkRequest, networkRelease, passiveStartUp, repeatMessageRequest, disableCommunication, enableCommunication, txConfirmation, rxIndication, confirmPnAvailability, setUserData, setPnRequests, status, mainFunction, ruleAt, table}
 use Rattle.modes.specs.Mode.{enterNetwork, enterRepeat, restart, heard, enabled}
 use Rattle.mode_steps.specs.ModeSteps.{nmInRepeatOrNormal, prepared, nmInReady, waitInPrepare, repeatInRepeat}
-use Rattle.transitions.specs.Transitions.{modeBy, trafficBy}
+use Rattle.mode_transitions.specs.ModeTransitions.{modeBy}
+use Rattle.traffic_transitions.specs.TrafficTransitions.{trafficBy}
 use Rattle.traffic_steps.specs.TrafficSteps.{inReady, inRepeat}
 use Rattle.traffic.specs.Traffic.{setupOf}
 use Rattle.heard.specs.Heard.{accepted, asksRepeat}

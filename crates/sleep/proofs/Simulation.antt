@@ -13,7 +13,7 @@ use Rattle.states.specs.declared.Mode.{Mode}
 use Rattle.decision.specs.Decision.{Call, networkRequest, networkRelease, passiveStartUp, repeatMessageRequest, disableCommunication, enableCommunication, txConfirmation, rxIndication, confirmPnAvailability, setUserData, setPnRequests, status, mainFunction, ruleAt, table}
 use Rattle.modes.specs.Mode.{mode, enterNetwork, enterRepeat, restart, heard, enabled}
 use Rattle.mode_steps.specs.ModeSteps.{nmInRepeatOrNormal, prepared, nmInReady, waitInPrepare, repeatInRepeat}
-use Rattle.transitions.specs.Transitions.{modeBy}
+use Rattle.mode_transitions.specs.ModeTransitions.{modeBy}
 use Rattle.heard.specs.Heard.{accepted, asksRepeat}
 use Rattle.refusals.specs.Refusals.{refusedState}
 use Rattle.channel.specs.Channel.{againFor, modeAfter, ruleFor}

@@ -1,7 +1,7 @@
 // The main function: one tick.
 //
 // Promises: the channel, answer, notes and every byte of the lent frame by channel's definition `tickedBy`, over every
-// channel handed in, refusals included. Leaves to others: what each step does (`transitions`, `sending`, `notes`,
+// channel handed in, refusals included. Leaves to others: what each step does (`mode_transitions`, `sending`, `notes`,
 // `frames`).
 use answers::Answer;
 use channel::state::Channel;
@@ -71,9 +71,9 @@ pub fn main_function_in_place<'a>(
     let a = refusals::judge(ok, false, false, decision::is_not_here(rule), size);
     if refusals::is_done(a) {
         // Steps a to d.
-        let after = transitions::mode_by(rule, false, t, m);
+        let after = mode_transitions::mode_by(rule, false, t, m);
         let s = traffic::setup_of(c, t);
-        let x = transitions::traffic_by(rule, false, s, m, after, old);
+        let x = traffic_transitions::traffic_by(rule, false, s, m, after, old);
         let first = notes::first_by(rule, m, after);
         let second = notes::second_by(rule, m, old);
         // Step f without its frame, which no table and no byte of the channel depends on.

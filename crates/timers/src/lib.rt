@@ -22,12 +22,6 @@ pub fn count_down(timers: &mut [u16]) -> bool
     fell
 }
 
-fn lesser(a: usize, b: usize) -> usize
-    ensures { λ r. ⌜ r ≡ min a b ⌝ }
-{
-    if a < b { a } else { b }
-}
-
 // How many of `n` timers have a bit in so many bytes. The product is made only where it is at most `n`.
 fn timers_of(bytes: usize, n: usize) -> usize
     ensures { λ r. ⌜ r ≡ min (8 * bytes) n ⌝ }
@@ -40,7 +34,7 @@ fn timers_of(bytes: usize, n: usize) -> usize
 pub fn load_where(bytes: &[u8], mask: &[u8], reset: u16, timers: &mut [u16]) -> bool
     ensures { λ r. ⌜ (now (timers .exit) ≡ loadedWhere (now (bytes .entry)) (now (mask .entry)) reset (now (timers .entry))) × (r ≡ vectorsDiffer (now (timers .entry)) (loadedWhere (now (bytes .entry)) (now (mask .entry)) reset (now (timers .entry)))) ⌝ }
 {
-    let end = timers_of(lesser(bytes.len(), mask.len()), timers.len());
+    let end = timers_of(choice::lesser(bytes.len(), mask.len()), timers.len());
     let mut changed = false;
     let mut i: usize = 0;
     while i < end {

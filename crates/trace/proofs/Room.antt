@@ -5,9 +5,9 @@ use Prim.Native.Nat.{ℕ, suc, _+_, _*_, _≤_}
 use native.Mathlib.Omega.{arith}
 use lib.Dec.{eqb}
 use lib.ListN.{length, take, length-append, length-take}
-use Rattle.text.specs.Blocks.{wholeLen, wholeLines}
+use Rattle.blocks.specs.Blocks.{wholeLen, wholeLines}
 use Rattle.text.specs.Lines.{before, lineFeed, linesOf}
-use Rattle.text.specs.Runs.{outs}
+use Rattle.blocks.specs.Runs.{outs}
 use Rattle.runs.specs.declared.Run.{Run}
 use Rattle.trace_line.specs.TraceLine.{ending, room, stepOf, textOf}
 use Rattle.trace_line.proofs.Room.{ending-le, line-le}

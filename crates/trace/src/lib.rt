@@ -12,7 +12,7 @@ ghost use mathlib.Core.Path.{_≡_};
 ghost use Prim.Native.Nat.{_+_, _*_, _≤_};
 ghost use lib.ListN.{length, take};
 ghost use Rattle.print.specs.Print.{Wrote};
-ghost use Rattle.text.specs.Blocks.{keeping, wholeLines};
+ghost use Rattle.blocks.specs.Blocks.{keeping, wholeLines};
 ghost use Rattle.text.specs.Filled.{filled};
 ghost use Rattle.text.specs.Lines.{linesOf};
 ghost use Rattle.runs.specs.Runs.{Gives};
@@ -26,7 +26,7 @@ ghost use Rattle.trace.specs.Trace.{printedFrom, start};
 const BLOCK: usize = 65536;
 
 // A block behind what is kept of a line.
-pub const BUFFER: usize = text::LINE_MOST + 1 + BLOCK;
+pub const BUFFER: usize = blocks::LINE_MOST + 1 + BLOCK;
 
 // What the lines of a full buffer can print, since a line has a byte at least, and the end of the input behind them.
 pub const OUTPUT: usize = trace_line::ROOM * (BUFFER + 1);
@@ -73,7 +73,7 @@ fn whole_lines(run: Run, text: &[u8], out: &mut [u8]) -> Step
     requires { ⌜ room * length (now text) ≤ length (now out) ⌝ }
     ensures { λ r. ⌜ Gives (linesFrom run (wholeLines (now (text .entry)))) (now (out .entry)) 0 (now (out .exit)) r ⌝ }
 {
-    let whole = text::whole_len(text);
+    let whole = blocks::whole_len(text);
     lines(run, &text[..whole], out)
 }
 
@@ -86,7 +86,7 @@ fn block_of(run: Run, buf: &mut [u8], n: usize, out: &mut [u8]) -> Ran
     ensures { λ r. ⌜ r .step .at ≤ length (now (out .entry)) ⌝ }
 {
     let s = whole_lines(run, slices::part(buf, 0, n), out);
-    let kept = text::keep_unfinished(buf, n);
+    let kept = blocks::keep_unfinished(buf, n);
     Ran {
         step: s,
         kept: kept,

@@ -11,7 +11,7 @@ use Rattle.settings.specs.declared.Setting.{Setting}
 use Rattle.settings.proofs.Cut.{Alike}
 use Rattle.config_line.proofs.Cut.{read-config-cut}
 use Rattle.pn_line.proofs.Cut.{is-partial-cut, read-partial-cut}
-use Rattle.text.specs.Blocks.{cut}
+use Rattle.blocks.specs.Blocks.{cut}
 use Rattle.runs.specs.declared.Phase.{Phase}
 use Rattle.runs.specs.declared.Phase.the-variants.{First, Second, Running, Ended}
 use Rattle.runs.specs.declared.Run.{Run}

@@ -20,7 +20,7 @@ use Rattle.config_line.specs.ConfigLine.{readConfig}
 use Rattle.pn_line.specs.PnLine.{isPartial, readPartial}
 use Rattle.sleep.specs.Sleep.{reached}
 use Rattle.sleep.specs.Sleep as sleep
-use Rattle.text.specs.Runs.{after}
+use Rattle.blocks.specs.Runs.{after}
 use Rattle.dispatch.specs.Calls.{carriedOutBy}
 use Rattle.runs.specs.declared.Phase.{Phase}
 use Rattle.runs.specs.declared.Phase.the-variants.{Second, Running, Ended}

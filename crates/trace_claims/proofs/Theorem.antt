@@ -4,9 +4,9 @@ use mathlib.Core.List.{List, [], _∷_, _++_, append-assoc}
 use Prim.Native.Nat.{ℕ}
 use native.Mathlib.Omega.{arith}
 use Rattle.sleep.proofs.Theorem.{every-channel-sleeps}
-use Rattle.text.specs.Blocks.{keptOf, wholeLines}
-use Rattle.text.specs.Runs.{after, afterBlocks, outsBlocks}
-use Rattle.text.proofs.Blocks.{after-blocks, outs-blocks}
+use Rattle.blocks.specs.Blocks.{keptOf, wholeLines}
+use Rattle.blocks.specs.Runs.{after, afterBlocks, outsBlocks}
+use Rattle.blocks.proofs.Blocks.{after-blocks, outs-blocks}
 use Rattle.runs.specs.declared.Run.{Run}
 use Rattle.runs.specs.Runs.{Outcome}
 use Rattle.config_lines.specs.ConfigLines.{holding}

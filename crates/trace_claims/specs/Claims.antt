@@ -11,8 +11,8 @@ use Rattle.decision.specs.Decision as calls
 use Rattle.config_line.specs.ConfigLine.{readConfig}
 use Rattle.pn_line.specs.PnLine.{isPartial, readPartial}
 use Rattle.sleep.specs.Sleep.{ChannelSleeps, reached}
-use Rattle.text.specs.Blocks.{cut, keptOf, wholeLines}
-use Rattle.text.specs.Runs.{after, joined}
+use Rattle.blocks.specs.Blocks.{cut, keptOf, wholeLines}
+use Rattle.blocks.specs.Runs.{after, joined}
 use Rattle.dispatch.specs.Calls.{callFor}
 use Rattle.runs.specs.declared.Phase.the-variants.{Running}
 use Rattle.runs.specs.declared.Run.{Run}

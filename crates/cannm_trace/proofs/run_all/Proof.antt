@@ -1,7 +1,7 @@
 -- `cannm_trace::run_all` meets its contract: the turns that are left fall. Assumes nothing.
 use Prim.Native.Nat.{_+_, _≤_}
 use native.Mathlib.Omega.{arith}
-use Rattle.text.specs.Blocks.{lineMost}
+use Rattle.blocks.specs.Blocks.{lineMost}
 use Rattle.cannm_trace.proofs.run_all.Statement.{statement}
 use Rattle.cannm_trace.proofs.run_all.Tie as tie
 

@@ -5,7 +5,7 @@ use native.Mathlib.Omega.{arith}
 use borrow.Author.Needs.{needs}
 use lib.ListN.{take, drop, length-take}
 use Rattle.print.proofs.Wrote.{wrote-length}
-use Rattle.text.specs.Blocks.{lineMost, wholeLen, keeping}
+use Rattle.blocks.specs.Blocks.{lineMost, wholeLen, keeping}
 use Rattle.text.specs.Filled.{Filled}
 use Rattle.cannm_trace.proofs.turn.Statement.{statement}
 use Rattle.cannm_trace.proofs.turn.Tie as tie

@@ -5,7 +5,7 @@ use native.Mathlib.Omega.{arith}
 use borrow.Author.Needs.{needs}
 use lib.ListN.{length}
 use lib.Seq.{length-take-le}
-use Rattle.text.proofs.Whole.{whole-le}
+use Rattle.blocks.proofs.Whole.{whole-le}
 use Rattle.trace.proofs.whole_lines.Statement.{statement}
 use Rattle.trace.proofs.whole_lines.Tie as tie
 

@@ -1,0 +1,38 @@
+-- A text that is read in blocks: the lines that are whole, and what is kept of the unfinished one. Assumes nothing.
+use Prim.Native.Nat.{ℕ, zero, suc, _+_}
+use mathlib.Core.Bool.{cond}
+use mathlib.Core.List.{List, [], _∷_}
+use lib.Dec.{eqb}
+use lib.ListN.{take, drop}
+use Rattle.text.specs.Filled.{Filled, fill}
+use Rattle.text.specs.Lines.{lineFeed, linesOf}
+
+-- the most bytes that a line may have
+abbrev pub lineMost : ℕ
+lineMost = 80
+
+-- what is kept of a line: with one byte more than it may have it is known to be too long
+abbrev pub cut : List ℕ → List ℕ
+cut l = take (lineMost + 1) l
+
+-- n bytes of whole lines behind the byte x, and x, if there are any or x ends a line
+abbrev pub wholeWith : ℕ → ℕ → ℕ
+wholeWith x zero = cond (eqb x lineFeed) 1 0
+wholeWith x (suc n) = suc (suc n)
+
+-- how many bytes the whole lines of a text have, with their line feeds
+unfoldable pub wholeLen : List ℕ → ℕ
+wholeLen [] = zero
+wholeLen (x ∷ xs) = wholeWith x (wholeLen xs)
+
+-- the whole lines of a text
+abbrev pub wholeLines : List ℕ → List (List ℕ)
+wholeLines s = linesOf (take (wholeLen s) s)
+
+-- what is kept of its unfinished line
+abbrev pub keptOf : List ℕ → List ℕ
+keptOf s = cut (drop (wholeLen s) s)
+
+-- the buffer after the text in its first n bytes was cut to what is kept
+unfoldable pub keeping : ℕ → List ℕ → Filled
+keeping n buf = fill buf (keptOf (take n buf))
