@@ -17,13 +17,13 @@ KINDS = {
     "comparison": "another comparison: with or without the equal case, or the other direction",
     "constant": "a number by one",
     "field": "another field of the same type, as another timer",
-    "branch": "a branch negated: its test, its two blocks, or the two values of a choice",
+    "branch": "a branch negated: its test, its two blocks, or the two values of a choice; a `!` left out",
     "swap": "two fields of a struct or two arguments of a call exchanged",
     "truth": "true for false, or false for true",
     "named": "another named constant of the same type",
     "parameter": "another parameter of the same type",
-    "callee": "another function of the same type, as `either` for `both`",
-    "operator": "another operator of arithmetic",
+    "callee": "another function of the same type",
+    "operator": "another operator, of arithmetic or between tests, as `|` for `&`",
     "dropped": "a statement left out",
     "fixed": "a fixed value for an argument, for a field of a struct or for the test of a branch",
     "part": "a part of a slice for the slice: no byte of it, or all but the first",
@@ -31,9 +31,8 @@ KINDS = {
 }
 COMPARISONS = {"<": ["<=", ">"], "<=": ["<", ">="], ">": [">=", "<"], ">=": [">", "<="], "==": ["!="], "!=": ["=="]}
 CONTRARY = {"<": ">=", "<=": ">", ">": "<=", ">=": "<", "==": "!=", "!=": "=="}
-OPERATORS = {"+": "-", "-": "+", "*": "+", "/": "%", "%": "/", "<<": ">>", ">>": "<<", "&": "|", "+=": "-=", "-=": "+="}
-# The tests of crate `choice`. Their arguments are not exchanged: that changes nothing.
-TESTS = {"both": "either", "either": "both", "unlike": "either"}
+OPERATORS = {"+": "-", "-": "+", "*": "+", "/": "%", "%": "/", "<<": ">>", ">>": "<<", "&": "|", "|": "&", "^": "|"}
+OPERATORS |= {"+=": "-=", "-=": "+="}
 NUMBERS = ("u8", "u16", "u32", "u64", "usize")
 SLICE = re.compile(r"(?:mut)?\[[^;]*\]")
 NO_EXPRESSION = ("let", "return", "if", "while", "loop", "for", "match", "break", "continue")
@@ -394,6 +393,8 @@ class Finder:
         between_operands = code[i - 1].kind in ("name", "number") or code.text(i - 1) in (")", "]")
         if text in OPERATORS and between_operands and code.text(i - 1) not in NO_EXPRESSION:
             self.add("operator", i, i + 1, OPERATORS[text])
+        elif text == "!":
+            self.add("branch", i, i + 1, "")
 
     def name(self, i):
         code, text = self.code, self.code[i].text
@@ -466,11 +467,6 @@ class Finder:
         arguments, leaf = self.code.parts(i + 1), function.path[1] if function.path[0] == "choice" else ""
         if leaf.startswith("pick"):
             self.exchange("branch", arguments[1], arguments[2])
-        elif leaf == "negation":
-            first = i - 2 * (len(self.path_at(i)) - 1)
-            self.add("branch", first, self.code.partner[i + 1] + 1, self.source(*arguments[0]))
-        elif leaf in TESTS:
-            self.add("callee", i, i + 1, TESTS[leaf])
         else:
             types = [type_ for _, type_ in function.parameters]
             self.exchange_alike(arguments, types)

@@ -1,7 +1,8 @@
 // A text that is read in blocks: the lines of a block that are whole, and what is kept of the unfinished one.
 //
-// Promises: where the unfinished line of a block begins, and what is kept of it; that a run over the blocks gives what the
-// run over the whole text gives (proofs/Blocks). Leaves to others: the lines themselves (`text`), and reading the blocks.
+// Promises: where the unfinished line of a block begins, and what is kept of it; that a run over the blocks gives what
+// the run over the whole text gives (proofs/Blocks). Leaves to others: the lines themselves (`text`), and reading the
+// blocks.
 ghost use mathlib.Core.Path.{_≡_};
 ghost use Prim.Native.Nat.{_+_, _≤_};
 ghost use lib.ListN.{length, take, drop};

@@ -1,7 +1,7 @@
 // The calls that a line of a trace can ask for, by the name in front, with the argument or without.
 //
-// Promises: the call of every name, or that there is none, for any bytes. Leaves to others: cutting a line into name and argument
-// (`commands`), and which name it is (`names`).
+// Promises: the call of every name, or that there is none, for any bytes. Leaves to others: cutting a line into name
+// and argument (`commands`), and which name it is (`names`).
 ghost use mathlib.Core.Path.{_≡_};
 ghost use Rattle.command_names.specs.CommandNames.{alone, tickOf, withBytes};
 

@@ -1,7 +1,7 @@
 // What a line of a trace asks: a call of the channel, with its argument.
 //
-// Promises: the call of every line, or that it can't be read, for any bytes. Leaves to others: the call of a name (`command_names`),
-// the configuration's lines (`config_line`, `pn_line`), and carrying the call out (`dispatch`).
+// Promises: the call of every line, or that it can't be read, for any bytes. Leaves to others: the call of a name
+// (`command_names`), the configuration's lines (`config_line`, `pn_line`), and carrying the call out (`dispatch`).
 use command_names::Asked;
 ghost use mathlib.Core.Path.{_≡_};
 ghost use Rattle.text.specs.Filled.{filled};

@@ -11,8 +11,9 @@ use runs::Step;
 ghost use mathlib.Core.Path.{_≡_};
 ghost use Prim.Native.Nat.{_+_, _≤_};
 ghost use lib.ListN.{length};
-ghost use Rattle.runs.specs.Runs.{Gives, printedMost};
+ghost use Rattle.runs.specs.Runs.{Gives};
 ghost use Rattle.config_lines.specs.ConfigLines.{begun, broken, firstLine, holding, judgedPhase, partialLine};
+ghost use Rattle.report.specs.Report.{reportMost};
 
 // ---- runs
 
@@ -41,7 +42,7 @@ fn judged_phase(done: bool) -> Phase
 
 // A line of the configuration that can't be read ends the run. There must be room for its own.
 fn broken(run: Run, out: &mut [u8], at: usize) -> Step
-    requires { ⌜ at + printedMost ≤ length (now out) ⌝ }
+    requires { ⌜ at + reportMost ≤ length (now out) ⌝ }
     ensures { λ r. ⌜ Gives (broken run) (now (out .entry)) at (now (out .exit)) r ⌝ }
 {
     let p = runs::put_bare(out, at, run.next, runs::UNREADABLE_DIGIT, print::DASH);
@@ -53,7 +54,7 @@ fn broken(run: Run, out: &mut [u8], at: usize) -> Step
 
 // The configuration is judged, which prints line 1; the next line has the number n. There must be room for a line.
 pub fn begin(c: Config, n: u64, out: &mut [u8], at: usize) -> Step
-    requires { ⌜ at + printedMost ≤ length (now out) ⌝ }
+    requires { ⌜ at + reportMost ≤ length (now out) ⌝ }
     ensures { λ r. ⌜ Gives (begun c n) (now (out .entry)) at (now (out .exit)) r ⌝ }
 {
     let s = Channel::initialise(c);
@@ -76,7 +77,7 @@ pub fn begin(c: Config, n: u64, out: &mut [u8], at: usize) -> Step
 
 // Line 1. There must be room for a line.
 pub fn first_line(run: Run, l: &[u8], out: &mut [u8], at: usize) -> Step
-    requires { ⌜ at + printedMost ≤ length (now out) ⌝ }
+    requires { ⌜ at + reportMost ≤ length (now out) ⌝ }
     ensures { λ r. ⌜ Gives (firstLine run (now (l .entry))) (now (out .entry)) at (now (out .exit)) r ⌝ }
 {
     let s = config_line::read_config(l);
@@ -91,7 +92,7 @@ pub fn first_line(run: Run, l: &[u8], out: &mut [u8], at: usize) -> Step
 
 // A PN line. There must be room for a line.
 pub fn partial_line(run: Run, l: &[u8], out: &mut [u8], at: usize) -> Step
-    requires { ⌜ at + printedMost ≤ length (now out) ⌝ }
+    requires { ⌜ at + reportMost ≤ length (now out) ⌝ }
     ensures { λ r. ⌜ Gives (partialLine run (now (l .entry))) (now (out .entry)) at (now (out .exit)) r ⌝ }
 {
     let s = pn_line::read_partial(run.channel.own.config, l);

@@ -1,7 +1,7 @@
 // What a channel puts into a frame, and the timers that a sent frame loads.
 //
-// Promises: each function is a definition of specs/; lent bytes are given whole. Leaves to others: where a field stands (`layout`),
-// when a frame is sent (`sending`), and what is received (`heard`).
+// Promises: each function is a definition of specs/; lent bytes are given whole. Leaves to others: where a field stands
+// (`layout`), when a frame is sent (`sending`), and what is received (`heard`).
 use config::Config;
 use config::PDU_MOST;
 use config::PNC_MOST;

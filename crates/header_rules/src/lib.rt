@@ -1,7 +1,7 @@
 // Rules 6 and 7 of a configuration: the length of its PDU, and the positions of the header.
 //
-// Promises: each function is a definition of specs/. Leaves to others: the PDU's byte ranges (`config`), and which of all rules is
-// broken first (`rules`).
+// Promises: each function is a definition of specs/. Leaves to others: the PDU's byte ranges (`config`), and which of
+// all rules is broken first (`rules`).
 use config::Layout;
 ghost use mathlib.Core.Path.{_≡_};
 ghost use Rattle.header_rules.specs.HeaderRules.{behind, firstBrokenOfHeader, placed, rule6, rule7};

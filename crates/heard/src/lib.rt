@@ -1,7 +1,7 @@
 // What a channel takes from a PDU that it received.
 //
-// Promises: each function is a definition of specs/. Leaves to others: where a field stands (`layout`), which PN bytes keep a PDU
-// (`filter`), and what follows from it (`reception`).
+// Promises: each function is a definition of specs/. Leaves to others: where a field stands (`layout`), which PN bytes
+// keep a PDU (`filter`), and what follows from it (`reception`).
 use config::Config;
 use config::PDU_MOST;
 use config::PNC_MOST;

@@ -1,7 +1,7 @@
 // A configuration that passes, with the ticks that are kept beside it.
 //
-// Promises: `configured` is the condition on the configuration of a sound state. Leaves to others: the rules (`rules`) and the
-// other conditions (`conditions`, `pn_limits`, `soundness`).
+// Promises: `configured` is the condition on the configuration of a sound state. Leaves to others: the rules (`rules`)
+// and the other conditions (`conditions`, `pn_limits`, `soundness`).
 use config::Config;
 use config::Ticks;
 ghost use mathlib.Core.Path.{_≡_};

@@ -1,7 +1,7 @@
 // The mode of a channel in a tick: steps a to c, the NM, the wait and the repeat timer.
 //
-// Promises: each function is a definition of specs/. Leaves to others: the calls (`modes`), and which rule has which step
-// (`mode_transitions`).
+// Promises: each function is a definition of specs/. Leaves to others: the calls (`modes`), and which rule has which
+// step (`mode_transitions`).
 use config::Ticks;
 use states::Mode;
 use states::State;

@@ -1,7 +1,7 @@
 // What each transition rule does to the mode.
 //
-// Promises: `mode_by` is a definition of specs/. Leaves to others: which rule it is (`decision`), the parts of a rule (`modes`,
-// `mode_steps`), the traffic (`traffic_transitions`), and what is told (`notes`).
+// Promises: `mode_by` is a definition of specs/. Leaves to others: which rule it is (`decision`), the parts of a rule
+// (`modes`, `mode_steps`), the traffic (`traffic_transitions`), and what is told (`notes`).
 use config::Ticks;
 use decision::Rule;
 use states::Mode;

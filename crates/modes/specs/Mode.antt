@@ -1,4 +1,5 @@
--- What each transition rule of a call does to the mode: the state with its flags, and the NM, wait and repeat timers. Assumes nothing.
+-- What each transition rule of a call does to the mode: the state with its flags, and the NM, wait and repeat timers.
+-- Assumes nothing.
 use Prim.Native.Nat.{ℕ}
 use mathlib.Core.Bool.{Bool, true, cond}
 use Rattle.config.specs.declared.Ticks.{Ticks}

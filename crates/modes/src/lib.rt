@@ -1,7 +1,8 @@
-// The mode of a channel, its state with its flags and the NM, wait and repeat timers: what the transition rules of the calls change.
+// The mode of a channel, its state with its flags and the NM, wait and repeat timers: what the transition rules of the
+// calls change.
 //
-// Promises: each function is a definition of specs/. Leaves to others: the tick (`mode_steps`), which rule has which part
-// (`mode_transitions`), and the rest of a channel (`traffic`).
+// Promises: each function is a definition of specs/. Leaves to others: the tick (`mode_steps`), which rule has which
+// part (`mode_transitions`), and the rest of a channel (`traffic`).
 use config::Ticks;
 use states::Mode;
 use states::State;

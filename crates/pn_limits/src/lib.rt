@@ -1,7 +1,7 @@
 // The most that each PN timer of a sound state may hold.
 //
-// Promises: `put_limits` is a definition of `timers` over the bytes of the mask that count. Leaves to others: the comparison with
-// the timers (`timers`, `soundness`).
+// Promises: `put_limits` and `pair_under` are equations with the definitions of specs/. Leaves to others: which tables
+// are compared with the limits (`soundness`).
 use config::Config;
 use config::PDU_MOST;
 use config::PNC_MOST;

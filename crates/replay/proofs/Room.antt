@@ -13,19 +13,19 @@ use Rattle.command_names.specs.declared.Command.{Command}
 use Rattle.command_names.specs.declared.Asked.{Asked}
 use Rattle.command_names.specs.declared.Asked.the-variants.{Unreadable, Call}
 use Rattle.config.specs.declared.Config.{Config}
-use Rattle.config.specs.Ranges.{userStartOf}
+use Rattle.config.specs.Ranges.{userStartOf, pduMost}
 use Rattle.decision.specs.Decision as calls
 use Rattle.frames.specs.Frames.{framed}
 use Rattle.layout.specs.Fields.{Fields}
 use Rattle.layout.specs.Layout.{frameOf}
 use Rattle.layout.proofs.Lengths.{laid-length}
-use Rattle.report.specs.Report.{letterOf}
+use Rattle.report.specs.Report.{letterOf, reportMost}
 use Rattle.report.proofs.Line.{length-line}
 use Rattle.dispatch.specs.Calls.{callFor, carriedOutBy}
 use Rattle.runs.specs.declared.Run.{Run}
-use Rattle.runs.specs.Runs.{digitOf, printedMost, sentBytes}
+use Rattle.runs.specs.Runs.{digitOf, sentBytes}
 use Rattle.runs.proofs.Laws.{bare-le, sent-le}
-use Rattle.replay.specs.Replay.{called, doing, frameMost, laterLine, readingOf, repliedWith, replyText, unread}
+use Rattle.replay.specs.Replay.{called, doing, laterLine, readingOf, repliedWith, replyText, unread}
 
 -- ---- the frame
 
@@ -46,25 +46,25 @@ after-length ch x frame = by-sent (replied ch x .sent)
 
 -- ---- lines
 
-reply-text-le : (n : ℕ) (r : Reply) (frame : List ℕ) {k : ℕ} → length frame ≡ k → length (replyText n r frame) ≤ printedMost + 2 * k
+reply-text-le : (n : ℕ) (r : Reply) (frame : List ℕ) {k : ℕ} → length frame ≡ k → length (replyText n r frame) ≤ reportMost + 2 * k
 unfolding replyText
 reply-text-le n r frame e =
     let b = sentBytes (r .sent) (r .channel .own .config .layout .length) frame in
     omega (arith, length-line n (digitOf (numberOf (r .answer))) (letterOf (r .channel .own .mode .state)) (r .notes) b, sent-le (r .sent) (r .channel .own .config .layout .length) frame)
 
-reply-le : (run : Run) (k : Command) (bytes : List ℕ) → length (called run k bytes .text) ≤ printedMost + 2 * frameMost
+reply-le : (run : Run) (k : Command) (bytes : List ℕ) → length (called run k bytes .text) ≤ reportMost + 2 * pduMost
 unfolding called repliedWith carriedOutBy
 reply-le run k bytes =
-    reply-text-le _ _ _ (after-length (run .channel) (callFor k bytes frameMost) (replicate frameMost 0))
+    reply-text-le _ _ _ (after-length (run .channel) (callFor k bytes pduMost) (replicate pduMost 0))
 
-unread-le : (run : Run) → length (unread run .text) ≤ printedMost
+unread-le : (run : Run) → length (unread run .text) ≤ reportMost
 unfolding unread
 unread-le run = bare-le _ _ _
 
-pub later-le : (run : Run) (l : List ℕ) → length (laterLine run l .text) ≤ printedMost + 2 * frameMost
+pub later-le : (run : Run) (l : List ℕ) → length (laterLine run l .text) ≤ reportMost + 2 * pduMost
 unfolding laterLine
 later-le run l = by-asked (readingOf l .asked) (readingOf l .bytes)
   where
-    by-asked : (a : Asked) (bytes : List ℕ) → length (doing run a bytes .text) ≤ printedMost + 2 * frameMost
+    by-asked : (a : Asked) (bytes : List ℕ) → length (doing run a bytes .text) ≤ reportMost + 2 * pduMost
     by-asked Unreadable bytes = omega (arith, unread-le run)
     by-asked (Call k) bytes = reply-le run k bytes

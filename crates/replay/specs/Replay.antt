@@ -34,10 +34,6 @@ stepIn n c t m x user requests era eira at = record { run = runIn (counted n) c 
 
 -- ---- replies
 
--- the room of the frame that a tick is lent: the longest PDU's
-abbrev pub frameMost : ℕ
-frameMost = pduMost
-
 -- the line of a reply, with the lent frame after the call
 unfoldable pub replyText : ℕ → Reply → List ℕ → List ℕ
 replyText n r frame =
@@ -61,7 +57,7 @@ repliedWith run t =
 
 unfoldable pub called : Run → Command → List ℕ → Outcome
 called run k bytes =
-    repliedWith run (carriedOutBy (run .channel) (callFor k bytes frameMost) (replicate frameMost 0))
+    repliedWith run (carriedOutBy (run .channel) (callFor k bytes pduMost) (replicate pduMost 0))
 
 -- a line that can't be read prints 7 with the state, and changes nothing
 unfoldable pub unread : Run → Outcome

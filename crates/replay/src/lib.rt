@@ -17,9 +17,11 @@ use states::Traffic;
 ghost use mathlib.Core.Path.{_≡_};
 ghost use Prim.Native.Nat.{_+_, _*_, _≤_};
 ghost use lib.ListN.{length};
-ghost use Rattle.runs.specs.Runs.{Gives, printedMost};
+ghost use Rattle.runs.specs.Runs.{Gives};
 ghost use Rattle.soundness.specs.Sound.{soundOf};
-ghost use Rattle.replay.specs.Replay.{called, frameMost, laterLine, runIn, stepIn};
+ghost use Rattle.replay.specs.Replay.{called, laterLine, runIn, stepIn};
+ghost use Rattle.report.specs.Report.{reportMost};
+ghost use Rattle.config.specs.Ranges.{pduMost};
 
 // The most bytes in hex of a line.
 const BYTES_MOST: usize = 40;
@@ -50,7 +52,7 @@ fn called(
     out: &mut [u8],
     at: usize,
 ) -> Moved
-    requires { ⌜ (ok ≡ soundOf c t m x (now era) (now eira)) × (at + printedMost + 2 * frameMost ≤ length (now out)) ⌝ }
+    requires { ⌜ (ok ≡ soundOf c t m x (now era) (now eira)) × (at + reportMost + 2 * pduMost ≤ length (now out)) ⌝ }
     ensures { λ r. ⌜ Gives (called (runIn n c t m x (now (user .entry)) (now (requests .entry)) (now (era .entry)) (now (eira .entry))) k (now (bytes .entry))) (now (out .entry)) at (now (out .exit)) (stepIn n c t (r .mode) (r .traffic) (now (user .exit)) (now (requests .exit)) (now (era .exit)) (now (eira .exit)) (r .at)) ⌝ }
 {
     let mut frame = [0u8; PDU_MOST];
@@ -107,7 +109,7 @@ pub fn later_line_in_place(
     out: &mut [u8],
     at: usize,
 ) -> Moved
-    requires { ⌜ (ok ≡ soundOf c t m x (now era) (now eira)) × (at + printedMost + 2 * frameMost ≤ length (now out)) ⌝ }
+    requires { ⌜ (ok ≡ soundOf c t m x (now era) (now eira)) × (at + reportMost + 2 * pduMost ≤ length (now out)) ⌝ }
     ensures { λ r. ⌜ Gives (laterLine (runIn n c t m x (now (user .entry)) (now (requests .entry)) (now (era .entry)) (now (eira .entry))) (now (l .entry))) (now (out .entry)) at (now (out .exit)) (stepIn n c t (r .mode) (r .traffic) (now (user .exit)) (now (requests .exit)) (now (era .exit)) (now (eira .exit)) (r .at)) ⌝ }
 {
     let mut bytes = [0u8; BYTES_MOST];
@@ -143,7 +145,7 @@ pub fn later_line_in_place(
 
 // A line behind the configuration. There must be room for the longest line.
 pub fn later_line(run: Run, l: &[u8], out: &mut [u8], at: usize) -> Step
-    requires { ⌜ at + printedMost + 2 * frameMost ≤ length (now out) ⌝ }
+    requires { ⌜ at + reportMost + 2 * pduMost ≤ length (now out) ⌝ }
     ensures { λ r. ⌜ Gives (laterLine run (now (l .entry))) (now (out .entry)) at (now (out .exit)) r ⌝ }
 {
     let n = run.next;

@@ -1,7 +1,7 @@
 // The first broken rule of a configuration.
 //
-// Promises: the number of the first of the eight rules that is broken, or 0, for every configuration whatever its numbers. Leaves to
-// others: the rules themselves (`time_rules`, `header_rules`, `pn_rules`).
+// Promises: the number of the first of the eight rules that is broken, or 0, for every configuration whatever its
+// numbers. Leaves to others: the rules themselves (`time_rules`, `header_rules`, `pn_rules`).
 use config::Config;
 use config::Ticks;
 ghost use mathlib.Core.Path.{_≡_};

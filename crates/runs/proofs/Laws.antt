@@ -8,7 +8,8 @@ use Rattle.answers.specs.declared.Answer.{Answer}
 use Rattle.answers.specs.declared.Answer.the-variants.{Done, Unsound, Rule, State, Passive, Length, PnOff}
 use Rattle.answers.specs.Answers.{numberOf}
 use Rattle.report.proofs.Line.{length-line}
-use Rattle.runs.specs.Runs.{Outcome, bareText, printedMost, quiet, sentBytes}
+use Rattle.runs.specs.Runs.{Outcome, bareText, quiet, sentBytes}
+use Rattle.report.specs.Report.{reportMost}
 
 -- an answer's number has one digit
 pub number-le : (a : Answer) → numberOf a ≤ 6
@@ -21,7 +22,7 @@ number-le Length = omega arith
 number-le PnOff = omega arith
 
 -- how much room a line without notes and frame takes
-pub bare-le : (n answer state : ℕ) → length (bareText n answer state) ≤ printedMost
+pub bare-le : (n answer state : ℕ) → length (bareText n answer state) ≤ reportMost
 unfolding bareText
 bare-le n answer state = omega (arith, length-line n answer state quiet [])
 

@@ -10,7 +10,7 @@ use Rattle.channel.specs.declared.state.Notes.{Notes}
 use Rattle.channel.specs.Channel.{notes}
 use Rattle.states.specs.declared.Note.the-variants.{Nothing}
 use Rattle.print.specs.Print.{Wrote}
-use Rattle.report.specs.Report.{reportMost, lineText}
+use Rattle.report.specs.Report.{lineText}
 use Rattle.runs.specs.declared.Phase.{Phase}
 use Rattle.runs.specs.declared.Run.{Run}
 use Rattle.runs.specs.declared.Step.{Step}
@@ -47,10 +47,6 @@ pub record Gives (o : Outcome) (l : List ℕ) (i : ℕ) (m : List ℕ) (s : Step
   pub text : Wrote l i (o .text) m (s .at)
 
 -- ---- printed lines
-
--- the most bytes of a printed line, without its frame
-abbrev pub printedMost : ℕ
-printedMost = reportMost
 
 -- the byte of an answer's number
 abbrev pub digitOf : ℕ → ℕ

@@ -12,8 +12,8 @@ ghost use Prim.Native.Nat.{_+_, _≤_};
 ghost use lib.ListN.{length};
 ghost use Rattle.answers.specs.Answers.{numberOf};
 ghost use Rattle.print.specs.Print.{Wrote};
-ghost use Rattle.report.specs.Report.{letterOf};
-ghost use Rattle.runs.specs.Runs.{bareText, counted, digitOf, passed, printedMost, quiet, sentBytes, unreadableDigit};
+ghost use Rattle.report.specs.Report.{letterOf, reportMost};
+ghost use Rattle.runs.specs.Runs.{bareText, counted, digitOf, passed, quiet, sentBytes, unreadableDigit};
 
 // ---- runs
 
@@ -89,7 +89,7 @@ fn quiet() -> Notes
 
 // A line without notes and frame. There must be room for the longest.
 pub fn put_bare(out: &mut [u8], at: usize, n: u64, answer: u8, state: u8) -> usize
-    requires { ⌜ at + printedMost ≤ length (now out) ⌝ }
+    requires { ⌜ at + reportMost ≤ length (now out) ⌝ }
     ensures { λ r. ⌜ Wrote (now (out .entry)) at (bareText n answer state) (now (out .exit)) r ⌝ }
 {
     report::put_line(out, at, n, answer, state, quiet(), b"")
@@ -97,7 +97,7 @@ pub fn put_bare(out: &mut [u8], at: usize, n: u64, answer: u8, state: u8) -> usi
 
 // The line for one that can't be read, in a state. There must be room for it.
 pub fn put_unreadable(out: &mut [u8], at: usize, n: u64, state: State) -> usize
-    requires { ⌜ at + printedMost ≤ length (now out) ⌝ }
+    requires { ⌜ at + reportMost ≤ length (now out) ⌝ }
     ensures { λ r. ⌜ Wrote (now (out .entry)) at (bareText n unreadableDigit (letterOf state)) (now (out .exit)) r ⌝ }
 {
     put_bare(out, at, n, UNREADABLE_DIGIT, report::letter(state))

@@ -1,7 +1,7 @@
 // Sound states: all conditions together.
 //
-// Promises: each function is a definition of specs/. Leaves to others: the conditions (`kept_ticks`, `conditions`, `pn_limits`), and
-// refusing a state that is not sound (`channel`).
+// Promises: each function is a definition of specs/. Leaves to others: the conditions (`kept_ticks`, `conditions`,
+// `pn_limits`), and refusing a state that is not sound (`channel`).
 use config::Config;
 use config::PNC_MOST;
 use config::Ticks;

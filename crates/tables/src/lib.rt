@@ -1,7 +1,7 @@
 // A channel's tables of PN timers and its bytes at their lengths, for the functions over slices.
 //
-// Promises: each function is the one of `timers`, `vectors` or `slices` that it calls. Leaves to others: what is loaded and stored
-// (`heard`, `frames`, `inputs`).
+// Promises: each function is the one of `timers`, `vectors` or `slices` that it calls. Leaves to others: what is loaded
+// and stored (`heard`, `frames`, `inputs`).
 use config::PDU_MOST;
 use config::PNC_MOST;
 ghost use mathlib.Core.Path.{_≡_};

@@ -1,7 +1,7 @@
 // Rules 1 to 5 of a configuration, and its times in ticks.
 //
-// Promises: each function is a definition of specs/. Leaves to others: the fields and their bounds (`config`), the conversion
-// (`ticks`), and which rule is broken first (`rules`).
+// Promises: each function is a definition of specs/. Leaves to others: the fields and their bounds (`config`), the
+// conversion (`ticks`), and which rule is broken first (`rules`).
 use config::Config;
 use config::Ticks;
 use config::Times;

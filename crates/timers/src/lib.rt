@@ -1,7 +1,7 @@
 // The reset timers behind a vector of bits, one for each bit: loading them and counting them down, for any number.
 //
-// Promises: each function is an equation with a definition of specs/, for every number of timers. Leaves to others: the vector
-// (`vectors`), what a bit stands for (`pnc`), and when a timer is loaded or counted (`frames`, `tick`).
+// Promises: each function is an equation with a definition of specs/, for every number of timers. Leaves to others: the
+// vector (`vectors`), what a bit stands for (`pnc`), and when a timer is loaded or counted (`frames`, `tick`).
 ghost use mathlib.Core.Path.{_≡_};
 ghost use Prim.Native.Nat.{_*_, _^_, _<_, min};
 ghost use Rattle.timers.specs.Timers.{countedDown, loadedWhere};

@@ -16,17 +16,18 @@ use Rattle.blocks.specs.Runs.{after, joined}
 use Rattle.dispatch.specs.Calls.{callFor}
 use Rattle.runs.specs.declared.Phase.the-variants.{Running}
 use Rattle.runs.specs.declared.Run.{Run}
-use Rattle.replay.specs.Replay.{frameMost, readingOf}
+use Rattle.replay.specs.Replay.{readingOf}
 use Rattle.trace_line.specs.TraceLine.{lineOf, stepOf}
 use Rattle.call_lines.specs.CallLines.{linesFrom}
 use Rattle.trace.specs.Trace.{printed, printedFrom, start}
+use Rattle.config.specs.Ranges.{pduMost}
 
 -- ---- the calls of a trace
 
 -- the call of a line, none where it can't be read
 abbrev pub callsOf : Asked → List ℕ → List calls.Call
 callsOf Unreadable bytes = []
-callsOf (Call k) bytes = callFor k bytes frameMost ∷ []
+callsOf (Call k) bytes = callFor k bytes pduMost ∷ []
 
 -- the calls of lines in their order
 unfoldable pub callsIn : List (List ℕ) → List calls.Call

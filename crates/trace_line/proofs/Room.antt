@@ -6,16 +6,16 @@ use lib.ListN.{length, length-append}
 use Rattle.pn_line.specs.PnLine.{isPartial}
 use Rattle.config_lines.specs.ConfigLines.{begun, partialLine}
 use Rattle.config_lines.proofs.Room.{begun-length, first-le, partial-le}
-use Rattle.replay.specs.Replay.{frameMost}
 use Rattle.replay.proofs.Room.{later-le}
 use Rattle.runs.specs.declared.Phase.{Phase}
 use Rattle.runs.specs.declared.Phase.the-variants.{First, Second, Running, Ended}
 use Rattle.runs.specs.declared.Run.{Run}
-use Rattle.runs.specs.Runs.{printedMost}
 use Rattle.runs.proofs.Laws.{either-le}
 use Rattle.trace_line.specs.TraceLine.{andThen, ending, endingIn, following, isRunning, lineIn, room, secondLine, textOf}
+use Rattle.report.specs.Report.{reportMost}
+use Rattle.config.specs.Ranges.{pduMost}
 
-following-le : (run : Run) (l : List ℕ) → length (following run l .text) ≤ printedMost + 2 * frameMost
+following-le : (run : Run) (l : List ℕ) → length (following run l .text) ≤ reportMost + 2 * pduMost
 unfolding following
 following-le run l = either-le (isRunning (run .phase)) _ _ (later-le run l) (omega arith)
 

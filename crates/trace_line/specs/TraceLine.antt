@@ -4,11 +4,13 @@ use mathlib.Core.List.{List, [], _++_}
 use Prim.Native.Nat.{ℕ, _+_, _*_}
 use Rattle.pn_line.specs.PnLine.{isPartial}
 use Rattle.config_lines.specs.ConfigLines.{begun, firstLine, partialLine}
-use Rattle.replay.specs.Replay.{frameMost, laterLine}
+use Rattle.replay.specs.Replay.{laterLine}
 use Rattle.runs.specs.declared.Phase.{Phase}
 use Rattle.runs.specs.declared.Phase.the-variants.{First, Second, Running, Ended}
 use Rattle.runs.specs.declared.Run.{Run}
-use Rattle.runs.specs.Runs.{Outcome, outcome, passed, printedMost}
+use Rattle.runs.specs.Runs.{Outcome, outcome, passed}
+use Rattle.report.specs.Report.{reportMost}
+use Rattle.config.specs.Ranges.{pduMost}
 
 -- ---- line 2
 
@@ -52,7 +54,7 @@ textOf run l = lineOf run l .text
 
 -- room for the text of one line: the longest line with a frame, behind the ten bytes of line 1
 abbrev pub room : ℕ
-room = 10 + printedMost + 2 * frameMost
+room = 10 + reportMost + 2 * pduMost
 
 -- ---- the end of the input
 

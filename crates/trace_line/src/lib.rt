@@ -10,9 +10,10 @@ ghost use mathlib.Core.Path.{_≡_};
 ghost use Prim.Native.Nat.{_+_, _*_, _≤_};
 ghost use lib.ListN.{length};
 ghost use Rattle.print.specs.Print.{Wrote};
-ghost use Rattle.replay.specs.Replay.{frameMost};
-ghost use Rattle.runs.specs.Runs.{Gives, printedMost};
+ghost use Rattle.runs.specs.Runs.{Gives};
 ghost use Rattle.trace_line.specs.TraceLine.{ending, following, isRunning, lineOf, room, secondLine};
+ghost use Rattle.report.specs.Report.{reportMost};
+ghost use Rattle.config.specs.Ranges.{pduMost};
 
 // Does the next line ask for a call?
 pub fn is_running(phase: Phase) -> bool
@@ -28,7 +29,7 @@ pub fn is_running(phase: Phase) -> bool
 
 // A line behind the judged configuration. There must be room for the longest line.
 fn follow(run: Run, l: &[u8], out: &mut [u8], at: usize) -> Step
-    requires { ⌜ at + printedMost + 2 * frameMost ≤ length (now out) ⌝ }
+    requires { ⌜ at + reportMost + 2 * pduMost ≤ length (now out) ⌝ }
     ensures { λ r. ⌜ Gives (following run (now (l .entry))) (now (out .entry)) at (now (out .exit)) r ⌝ }
 {
     let phase = run.phase;
@@ -75,7 +76,7 @@ pub fn line(run: Run, l: &[u8], out: &mut [u8], at: usize) -> Step
 
 // The end of the input: a configuration that waits for line 2 is judged. There must be room for a line.
 pub fn finish(run: Run, out: &mut [u8], at: usize) -> usize
-    requires { ⌜ at + printedMost ≤ length (now out) ⌝ }
+    requires { ⌜ at + reportMost ≤ length (now out) ⌝ }
     ensures { λ r. ⌜ Wrote (now (out .entry)) at (ending run) (now (out .exit)) r ⌝ }
 {
     let phase = run.phase;

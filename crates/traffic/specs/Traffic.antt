@@ -1,5 +1,5 @@
--- What each transition rule of a call does to message and remote timers, fast count, indication and bits. It sees the mode before and
--- after, and never changes it. Assumes nothing.
+-- What each transition rule of a call does to message and remote timers, fast count, indication and bits. It sees the
+-- mode before and after, and never changes it. Assumes nothing.
 use Prim.Native.Nat.{ℕ}
 use mathlib.Core.Bool.{Bool, true, false, cond, not, _&&_}
 use lib.Dec.{ltb}

@@ -1,7 +1,8 @@
 // Message and remote timers, fast count, indication and bits: what the transition rules of the calls change.
 //
-// Promises: each function is a definition of specs/. It sees the mode before a rule. Leaves to others: the tick (`traffic_steps`,
-// step f `sending`), which rule has which part (`traffic_transitions`), the mode itself (`modes`), what is told (`notes`).
+// Promises: each function is a definition of specs/. It sees the mode before a rule. Leaves to others: the tick
+// (`traffic_steps`, step f `sending`), which rule has which part (`traffic_transitions`), the mode itself (`modes`),
+// what is told (`notes`).
 use config::Config;
 use config::Ticks;
 use states::Mode;

@@ -1,7 +1,7 @@
 // Message and remote timers, fast count, indication and bits in a tick: steps a, c and d.
 //
-// Promises: each function is a definition of specs/. It sees the mode before or after the step. Leaves to others: the calls
-// (`traffic`), step f (`sending`), and which rule has which step (`traffic_transitions`).
+// Promises: each function is a definition of specs/. It sees the mode before or after the step. Leaves to others: the
+// calls (`traffic`), step f (`sending`), and which rule has which step (`traffic_transitions`).
 use states::Mode;
 use states::State;
 use states::Traffic;

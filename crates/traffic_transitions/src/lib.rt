@@ -1,7 +1,7 @@
 // What each transition rule does to the traffic: message and remote timers, fast count, indication and bits.
 //
-// Promises: `traffic_by` is a definition of specs/. Leaves to others: which rule it is (`decision`), the parts of a rule (`traffic`,
-// `traffic_steps`), the mode (`mode_transitions`), and step f of a tick (`sending`).
+// Promises: `traffic_by` is a definition of specs/. Leaves to others: which rule it is (`decision`), the parts of a
+// rule (`traffic`, `traffic_steps`), the mode (`mode_transitions`), and step f of a tick (`sending`).
 use decision::Rule;
 use states::Mode;
 use states::Traffic;

@@ -1,7 +1,7 @@
 // The vector of bits behind a table of timers: a bit is 1 while its timer is not 0.
 //
-// Promises: each function is an equation with a definition of specs/, for every number of timers. Leaves to others: the timers
-// (`timers`), and what a bit stands for (`pnc`).
+// Promises: each function is an equation with a definition of specs/, for every number of timers. Leaves to others: the
+// timers (`timers`), and what a bit stands for (`pnc`).
 ghost use mathlib.Core.Path.{_≡_};
 ghost use Prim.Native.Nat.{_*_, _^_, _≤_, _<_};
 ghost use lib.ListN.{getD};
