@@ -23,7 +23,7 @@ KINDS = {
     "named": "another named constant of the same type",
     "parameter": "another parameter of the same type",
     "callee": "another function of the same type",
-    "operator": "another operator, of arithmetic or between tests, as `|` for `&`",
+    "operator": "another operator, of arithmetic or between tests, as or for and",
     "dropped": "a statement left out",
     "fixed": "a fixed value for an argument, for a field of a struct or for the test of a branch",
     "part": "a part of a slice for the slice: no byte of it, or all but the first",
