@@ -10,8 +10,8 @@ pub const BROKEN_RULE: u8 = 2;
 pub const WRONG_STATE: u8 = 3;
 /// Answer 4: the call is not for a passive channel.
 pub const PASSIVE: u8 = 4;
-/// Answer 5: a byte string has the wrong length, or a frame buffer is too
-/// short.
+/// Answer 5: a byte string has the wrong length, a frame buffer is too short,
+/// or a block of a trace is too long or brings too many lines.
 pub const WRONG_LENGTH: u8 = 5;
 /// Answer 6: the call needs PN, and PN is off.
 pub const PN_OFF: u8 = 6;

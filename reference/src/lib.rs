@@ -5,8 +5,8 @@
 //! "Rule n" in the comments is configuration rule n of paper 01; a "refusal"
 //! is an answer other than 0 from its table of answers.
 //!
-//! Channel and trace allocate nothing for a call or a line: byte strings are
-//! borrowed from the caller.
+//! Channel and trace allocate nothing for a call, a line or a block: byte
+//! strings are borrowed from the caller.
 
 #![forbid(unsafe_code)]
 #![warn(missing_docs)]
@@ -17,6 +17,7 @@ pub mod call;
 pub mod channel;
 pub mod config;
 pub mod counts;
+pub mod feed;
 pub mod filter;
 pub mod generate;
 pub mod host;

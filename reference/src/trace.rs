@@ -30,7 +30,7 @@ const PN_FIELDS: usize = 6;
 /// The most digits of a number.
 pub const MAX_DIGITS: usize = 10;
 
-/// The digits of the largest line number in 64 bits, more than any text needs.
+/// The digits of the largest line number, the largest number of 64 bits.
 const NUMBER_DIGITS: usize = 20;
 
 /// The rest of a printed line: answer, state, notes and frame, each after a
@@ -313,12 +313,28 @@ struct Printer {
     start: usize,
 }
 
+/// Without the rest, which is written anew before it is printed.
+impl PartialEq for Printer {
+    fn eq(&self, other: &Printer) -> bool {
+        self.text[..NUMBER_DIGITS] == other.text[..NUMBER_DIGITS]
+    }
+}
+
+impl Eq for Printer {}
+
 impl Printer {
-    fn new() -> Printer {
-        Printer {
+    /// At the line of this number, 0 being before line 1.
+    fn at(mut number: u64) -> Printer {
+        let mut printer = Printer {
             text: [b'0'; NUMBER_DIGITS + MAX_REST],
             start: NUMBER_DIGITS,
+        };
+        while number > 0 {
+            printer.start -= 1;
+            printer.text[printer.start] += (number % 10) as u8;
+            number /= 10;
         }
+        printer
     }
 
     /// Goes on to the next line.
@@ -376,7 +392,7 @@ enum Phase {
 }
 
 /// A trace being run.
-#[derive(Clone, Debug)]
+#[derive(Clone, Debug, PartialEq, Eq)]
 pub struct Trace {
     phase: Phase,
     /// Until the calls begin, only its configuration counts.
@@ -396,8 +412,13 @@ impl Trace {
         Trace {
             phase: Phase::Start,
             channel: Channel::ZERO,
-            printer: Printer::new(),
+            printer: Printer::at(0),
         }
+    }
+
+    /// Goes on as if so many lines had come so far. Line 1 stays line 1.
+    pub(crate) fn set_lines(&mut self, lines: u64) {
+        self.printer = Printer::at(lines);
     }
 
     /// Whether the run is over, so that further lines print nothing.
@@ -438,7 +459,10 @@ impl Trace {
                 self.channel.config = config;
                 self.phase = Phase::Configured;
             }
-            Err(_) => self.end_unreadable(out),
+            Err(_) => {
+                print_line_1(UNREADABLE, NONE, out);
+                self.phase = Phase::Ended;
+            }
         }
     }
 
@@ -451,19 +475,13 @@ impl Trace {
             }
             Err(_) => {
                 self.printer.count();
-                self.end_unreadable(out);
+                self.printer.print(UNREADABLE, NONE, &[], &[], out);
+                self.phase = Phase::Ended;
             }
         }
     }
 
-    /// A configuration line that can't be read ends the run.
-    fn end_unreadable(&mut self, out: &mut Vec<u8>) {
-        self.printer.print(UNREADABLE, NONE, &[], &[], out);
-        self.phase = Phase::Ended;
-    }
-
-    /// The configuration is complete: line 1, not yet followed by another in
-    /// the count, is printed.
+    /// The configuration is complete: line 1 is printed.
     fn begin(&mut self, out: &mut Vec<u8>) {
         let (answer, _, channel) = initialise(&self.channel.config);
         self.channel = channel;
@@ -472,7 +490,7 @@ impl Trace {
         } else {
             (NONE, Phase::Ended)
         };
-        self.printer.print(answer, state, &[], &[], out);
+        print_line_1(answer, state, out);
         self.phase = phase;
     }
 
@@ -500,6 +518,11 @@ impl Trace {
     }
 }
 
+/// Prints line 1, whatever number the lines after it have.
+fn print_line_1(answer: u8, state: u8, out: &mut Vec<u8>) {
+    Printer::at(1).print(answer, state, &[], &[], out);
+}
+
 fn letter(state: State) -> u8 {
     state.letter() as u8
 }
@@ -511,6 +534,15 @@ pub struct Lines {
     kept: [u8; MAX_LINE + 1],
     len: usize,
 }
+
+/// Without the bytes of earlier lines past the end of what is kept.
+impl PartialEq for Lines {
+    fn eq(&self, other: &Lines) -> bool {
+        self.kept[..self.len] == other.kept[..other.len]
+    }
+}
+
+impl Eq for Lines {}
 
 impl Default for Lines {
     fn default() -> Self {
@@ -542,6 +574,11 @@ impl Lines {
         }
         self.keep(line);
         self.last()
+    }
+
+    /// Whether a line is kept that has a byte and no line feed yet.
+    pub fn is_unfinished(&self) -> bool {
+        self.len > 0
     }
 
     /// The line that the end of the text ends, if it has a byte.

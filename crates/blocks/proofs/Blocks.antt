@@ -47,12 +47,12 @@ lines-split (x ∷ xs) t = by-whole (wholeLen xs) xs (whole-le xs) (lines-split 
     by-whole (suc n) (y ∷ ys) h e = by-line (eqb x lineFeed) _ _ _ (some-line y (take n ys)) e
 
 -- the same for a text in two parts
-lines-more : (p b t : List ℕ) → wholeLines (p ++ b) ++ linesOf (drop (wholeLen (p ++ b)) (p ++ b) ++ t) ≡ linesOf (p ++ (b ++ t))
+pub lines-more : (p b t : List ℕ) → wholeLines (p ++ b) ++ linesOf (drop (wholeLen (p ++ b)) (p ++ b) ++ t) ≡ linesOf (p ++ (b ++ t))
 lines-more p b t = sym (lines-split (p ++ b) t) ∙ ap linesOf (append-assoc p b t)
 
 -- ---- the unfinished line has no line feed
 
-abbrev Open : List ℕ → Type 0
+abbrev pub Open : List ℕ → Type 0
 Open p = wholeLen p ≡ 0
 
 -- a byte that ends no line, before bytes that end none
@@ -64,7 +64,7 @@ open-head x zero h = (by-byte (eqb x lineFeed) h, refl)
     by-byte false e = refl
 open-head x (suc n) h = absurd (omega arith)
 
-open-rest : (s : List ℕ) → Open (drop (wholeLen s) s)
+pub open-rest : (s : List ℕ) → Open (drop (wholeLen s) s)
 unfolding wholeLen
 open-rest [] = refl
 open-rest (x ∷ xs) = by-whole (wholeLen xs) refl (open-rest xs)
@@ -133,7 +133,7 @@ module _ (p t : List ℕ) (o : Open p) where
       by-whole zero e = rw (open-append p t o e, open-append (cut p) t (open-take (lineMost + 1) p o) e)
       by-whole (suc m) e = by-lines t e
 
-  kept-cut : keptOf (cut p ++ t) ≡ keptOf (p ++ t)
+  pub kept-cut : keptOf (cut p ++ t) ≡ keptOf (p ++ t)
   kept-cut = by-whole (wholeLen t) refl
     where
       by-whole : (n : ℕ) → wholeLen t ≡ n → keptOf (cut p ++ t) ≡ keptOf (p ++ t)
@@ -143,6 +143,14 @@ module _ (p t : List ℕ) (o : Open p) where
 last-cut : (p : List ℕ) → Open p → map cut (linesOf (cut p)) ≡ map cut (linesOf p)
 last-cut [] o = refl
 last-cut (x ∷ p) o = rw (lines-open x p o, lines-open x (take lineMost p) (open-take (lineMost + 1) (x ∷ p) o), take-take lineMost lineMost p (omega arith))
+
+-- a cut line counts like the whole
+pub count-cut : (p t : List ℕ) → Open p → length (linesOf (cut p ++ t)) ≡ length (linesOf (p ++ t))
+count-cut [] t o = refl
+count-cut (x ∷ p) [] o = rw (append-nil, append-nil, lines-open x p o, lines-open x (take lineMost p) (open-take (lineMost + 1) (x ∷ p) o))
+count-cut (x ∷ p) (y ∷ t) o =
+    let f = some-line y t in
+    rw (lines-onto (x ∷ p) (y ∷ t) o (f .2), lines-onto (cut (x ∷ p)) (y ∷ t) (open-take (lineMost + 1) (x ∷ p) o) (f .2))
 
 -- ---- runs
 

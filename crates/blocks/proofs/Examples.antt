@@ -1,9 +1,8 @@
 -- Examples of the definitions. Assumes nothing.
 use mathlib.Core.Path.{_≡_, refl}
 use mathlib.Core.List.{[], _∷_}
-use Rattle.text.specs.Filled.{filled}
 use Rattle.text.specs.Lines.{linesOf}
-use Rattle.blocks.specs.Blocks.{keeping, wholeLen}
+use Rattle.blocks.specs.Blocks.{keptOf, wholeLen, wholeLines}
 
 -- "A", a line without a byte, and "BC" without a line feed
 three-lines : linesOf (65 ∷ 10 ∷ 10 ∷ 66 ∷ 67 ∷ []) ≡ (65 ∷ []) ∷ [] ∷ (66 ∷ 67 ∷ []) ∷ []
@@ -15,7 +14,11 @@ no-line-more : linesOf (65 ∷ 10 ∷ []) ≡ (65 ∷ []) ∷ []
 unfolding linesOf
 no-line-more = refl
 
--- of "A", a line feed and "BC" in a buffer of five bytes "BC" is kept
-two-kept : keeping 4 (65 ∷ 10 ∷ 66 ∷ 67 ∷ 68 ∷ []) ≡ filled 2 (66 ∷ 67 ∷ 66 ∷ 67 ∷ 68 ∷ [])
-unfolding keeping wholeLen
+-- of "A", a line feed and "BC" one line is whole, and "BC" is kept
+one-whole : wholeLines (65 ∷ 10 ∷ 66 ∷ 67 ∷ []) ≡ (65 ∷ []) ∷ []
+unfolding wholeLen linesOf
+one-whole = refl
+
+two-kept : keptOf (65 ∷ 10 ∷ 66 ∷ 67 ∷ []) ≡ 66 ∷ 67 ∷ []
+unfolding wholeLen
 two-kept = refl

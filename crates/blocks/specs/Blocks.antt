@@ -4,7 +4,6 @@ use mathlib.Core.Bool.{cond}
 use mathlib.Core.List.{List, [], _∷_}
 use lib.Dec.{eqb}
 use lib.ListN.{take, drop}
-use Rattle.text.specs.Filled.{Filled, fill}
 use Rattle.text.specs.Lines.{lineFeed, linesOf}
 
 -- the most bytes that a line may have
@@ -32,7 +31,3 @@ wholeLines s = linesOf (take (wholeLen s) s)
 -- what is kept of its unfinished line
 abbrev pub keptOf : List ℕ → List ℕ
 keptOf s = cut (drop (wholeLen s) s)
-
--- the buffer after the text in its first n bytes was cut to what is kept
-unfoldable pub keeping : ℕ → List ℕ → Filled
-keeping n buf = fill buf (keptOf (take n buf))

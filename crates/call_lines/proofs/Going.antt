@@ -44,9 +44,9 @@ pub going-end : {o r : Run} {all : List (List ℕ)} {k l : List ℕ} {i p : ℕ}
 unfolding linesFrom after outs
 going-end {o} {r} {all} {k} {l} {i} {p} v = going-rest v (record { run = refl; text = wrote-none l p })
 
--- lines from a run in its calls, by its number and its channel
+-- lines from a run in its calls, by its count and its channel
 pub gives-running : (run : Run) (ls : List (List ℕ)) {k l : List ℕ} {i : ℕ} {s : Step} → run .phase ≡ Running
-    → Gives (linesFrom (runOf Running (run .next) (run .channel)) ls) k i l s
+    → Gives (linesFrom (runOf Running (run .lines) (run .channel)) ls) k i l s
     → Gives (linesFrom run ls) k i l s
 gives-running run ls {k} {l} {i} {s} e g =
-    subst (λ (p : Phase). Gives (linesFrom (runOf p (run .next) (run .channel)) ls) k i l s) (sym e) g
+    subst (λ (p : Phase). Gives (linesFrom (runOf p (run .lines) (run .channel)) ls) k i l s) (sym e) g

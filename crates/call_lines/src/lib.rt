@@ -8,7 +8,7 @@ use runs::Run;
 use runs::Step;
 use text::Span;
 ghost use mathlib.Core.Path.{_≡_};
-ghost use Prim.Native.Nat.{_*_, _≤_};
+ghost use Prim.Native.Nat.{_+_, _*_, _-_, _≤_};
 ghost use lib.ListN.{length, drop};
 ghost use Rattle.text.specs.Lines.{linesOf};
 ghost use Rattle.runs.specs.declared.Phase.the-variants.{Running};
@@ -19,7 +19,7 @@ ghost use Rattle.call_lines.specs.CallLines.{linesFrom};
 // The lines of a text behind the configuration, from a place of the text on, printed from a place of the buffer on. What the
 // configuration comes to is found once for all lines. There must be room for what each prints.
 pub fn running(run: Run, text: &[u8], from: usize, out: &mut [u8], begin: usize) -> Step
-    requires { ⌜ (run .phase ≡ Running) × (begin ≤ room * from) × (room * length (now text) ≤ length (now out)) ⌝ }
+    requires { ⌜ (run .phase ≡ Running) × (begin + room * (length (now text) - from) ≤ length (now out)) ⌝ }
     ensures { λ r. ⌜ Gives (linesFrom run (linesOf (drop from (now (text .entry))))) (now (out .entry)) begin (now (out .exit)) r ⌝ }
 {
     let c = run.channel.own.config;
@@ -34,7 +34,7 @@ pub fn running(run: Run, text: &[u8], from: usize, out: &mut [u8], begin: usize)
     let mut requests = run.channel.own.requests;
     let mut era = run.channel.own.era;
     let mut eira = run.channel.eira;
-    let mut n = run.next;
+    let mut n = run.lines;
     let mut put = begin;
     let mut at = from;
     loop {
@@ -67,7 +67,7 @@ pub fn running(run: Run, text: &[u8], from: usize, out: &mut [u8], begin: usize)
                 return Step {
                     run: Run {
                         phase: Phase::Running,
-                        next: n,
+                        lines: n,
                         channel: channel,
                     },
                     at: put,

@@ -22,20 +22,20 @@ use Rattle.runs.specs.Runs.{Outcome, bareText, counted, digitOf, outcome, passe
 abbrev pub firstNumber : ℕ
 firstNumber = 1
 
--- a run that holds a configuration, which is not judged yet
+-- a run behind so many lines that holds a configuration, which is not judged yet
 unfoldable pub holding : Phase → ℕ → Config → Run
-holding phase next c = runOf phase next (fresh c (ticksFor c))
+holding phase lines c = runOf phase lines (fresh c (ticksFor c))
 
 -- ---- lines
 
 -- a line of the configuration that can't be read ends the run
 unfoldable pub broken : Run → Outcome
-broken run = outcome (passed run Ended) (bareText (run .next) unreadableDigit dash)
+broken run = outcome (passed run Ended) (bareText (counted (run .lines)) unreadableDigit dash)
 
 abbrev pub judgedPhase : Bool → Phase
 judgedPhase done = cond done Running Ended
 
--- the configuration is judged, which prints line 1; the next line has the number n
+-- the configuration is judged, which prints line 1; n lines came before the next
 unfoldable pub begun : Config → ℕ → Outcome
 begun c n =
     outcome (runOf (judgedPhase (isDone (initialised c .answer))) n (initialised c .channel))
@@ -44,11 +44,11 @@ begun c n =
 
 unfoldable pub firstLine : Run → List ℕ → Outcome
 firstLine run l =
-    cond (readConfig l .readable) (outcome (holding Second (counted (run .next)) (readConfig l .config)) []) (broken run)
+    cond (readConfig l .readable) (outcome (holding Second (counted (run .lines)) (readConfig l .config)) []) (broken run)
 
 -- a PN line: it prints only line 1
 unfoldable pub partialLine : Run → List ℕ → Outcome
 partialLine run l =
     cond (readPartial (run .channel .own .config) l .readable)
-    (begun (readPartial (run .channel .own .config) l .config) (counted (run .next)))
+    (begun (readPartial (run .channel .own .config) l .config) (counted (run .lines)))
     (broken run)

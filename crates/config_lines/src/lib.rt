@@ -20,13 +20,13 @@ ghost use Rattle.report.specs.Report.{reportMost};
 // The number of line 1.
 pub const FIRST_NUMBER: u64 = 1;
 
-// A run that holds a configuration, which is not judged yet.
-pub fn holding(phase: Phase, next: u64, c: Config) -> Run
-    ensures { λ r. ⌜ r ≡ holding phase next c ⌝ }
+// A run behind so many lines that holds a configuration, which is not judged yet.
+pub fn holding(phase: Phase, lines: u64, c: Config) -> Run
+    ensures { λ r. ⌜ r ≡ holding phase lines c ⌝ }
 {
     Run {
         phase: phase,
-        next: next,
+        lines: lines,
         channel: Channel::fresh(c, time_rules::ticks_for(c)),
     }
 }
@@ -45,14 +45,14 @@ fn broken(run: Run, out: &mut [u8], at: usize) -> Step
     requires { ⌜ at + reportMost ≤ length (now out) ⌝ }
     ensures { λ r. ⌜ Gives (broken run) (now (out .entry)) at (now (out .exit)) r ⌝ }
 {
-    let p = runs::put_bare(out, at, run.next, runs::UNREADABLE_DIGIT, print::DASH);
+    let p = runs::put_bare(out, at, runs::counted(run.lines), runs::UNREADABLE_DIGIT, print::DASH);
     Step {
         run: runs::passed(run, Phase::Ended),
         at: p,
     }
 }
 
-// The configuration is judged, which prints line 1; the next line has the number n. There must be room for a line.
+// The configuration is judged, which prints line 1; n lines came before the next. There must be room for a line.
 pub fn begin(c: Config, n: u64, out: &mut [u8], at: usize) -> Step
     requires { ⌜ at + reportMost ≤ length (now out) ⌝ }
     ensures { λ r. ⌜ Gives (begun c n) (now (out .entry)) at (now (out .exit)) r ⌝ }
@@ -68,7 +68,7 @@ pub fn begin(c: Config, n: u64, out: &mut [u8], at: usize) -> Step
     Step {
         run: Run {
             phase: judged_phase(done),
-            next: n,
+            lines: n,
             channel: channel,
         },
         at: p,
@@ -83,7 +83,7 @@ pub fn first_line(run: Run, l: &[u8], out: &mut [u8], at: usize) -> Step
     let s = config_line::read_config(l);
     if s.readable {
         return Step {
-            run: holding(Phase::Second, runs::counted(run.next), s.config),
+            run: holding(Phase::Second, runs::counted(run.lines), s.config),
             at: at,
         };
     }
@@ -97,7 +97,7 @@ pub fn partial_line(run: Run, l: &[u8], out: &mut [u8], at: usize) -> Step
 {
     let s = pn_line::read_partial(run.channel.own.config, l);
     if s.readable {
-        return begin(s.config, runs::counted(run.next), out, at);
+        return begin(s.config, runs::counted(run.lines), out, at);
     }
     broken(run, out, at)
 }

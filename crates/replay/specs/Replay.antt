@@ -28,7 +28,7 @@ use Rattle.runs.specs.Runs.{Outcome, bareText, counted, digitOf, outcome, passe
 abbrev pub runIn : ℕ → Config → Ticks → Mode → Traffic → List ℕ → List ℕ → List ℕ → List ℕ → Run
 runIn n c t m x user requests era eira = runOf Running n (channelOf c t m x user requests era eira)
 
--- the step to the line behind number n
+-- the step that one more line is, behind n of them
 abbrev pub stepIn : ℕ → Config → Ticks → Mode → Traffic → List ℕ → List ℕ → List ℕ → List ℕ → ℕ → Step
 stepIn n c t m x user requests era eira at = record { run = runIn (counted n) c t m x user requests era eira; at = at }
 
@@ -53,7 +53,7 @@ readingOf l = reading l (replicate bytesMost 0)
 -- a call that was carried out or refused
 unfoldable pub repliedWith : Run → Ticked → Outcome
 repliedWith run t =
-    outcome (runOf Running (counted (run .next)) (t .reply .channel)) (replyText (run .next) (t .reply) (t .frame))
+    outcome (runOf Running (counted (run .lines)) (t .reply .channel)) (replyText (counted (run .lines)) (t .reply) (t .frame))
 
 unfoldable pub called : Run → Command → List ℕ → Outcome
 called run k bytes =
@@ -62,7 +62,7 @@ called run k bytes =
 -- a line that can't be read prints 7 with the state, and changes nothing
 unfoldable pub unread : Run → Outcome
 unread run =
-    outcome (passed run Running) (bareText (run .next) unreadableDigit (letterOf (run .channel .own .mode .state)))
+    outcome (passed run Running) (bareText (counted (run .lines)) unreadableDigit (letterOf (run .channel .own .mode .state)))
 
 abbrev pub doing : Run → Asked → List ℕ → Outcome
 doing run Unreadable bytes = unread run

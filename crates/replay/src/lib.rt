@@ -34,7 +34,7 @@ pub struct Moved {
     pub at: usize,
 }
 
-// A call, and the line of its reply; n is the number of the line. `ok` says whether the channel is sound, and there must be
+// A call, and the line of its reply, behind n lines. `ok` says whether the channel is sound, and there must be
 // room for the longest line.
 fn called(
     ok: bool,
@@ -79,7 +79,7 @@ fn called(
     let p = report::put_line(
         out,
         at,
-        n,
+        runs::counted(n),
         runs::digit(answer),
         report::letter(state),
         notes,
@@ -92,7 +92,7 @@ fn called(
     }
 }
 
-// A line behind the configuration; one that can't be read changes nothing. `ok` says whether the channel is sound, and there
+// A line behind the configuration and n lines in all; one that can't be read changes nothing. `ok` says whether the channel is sound, and there
 // must be room for the longest line.
 pub fn later_line_in_place(
     ok: bool,
@@ -133,7 +133,7 @@ pub fn later_line_in_place(
         ),
         Asked::Unreadable => {
             let state = m.state;
-            let p = runs::put_unreadable(out, at, n, state);
+            let p = runs::put_unreadable(out, at, runs::counted(n), state);
             Moved {
                 mode: m,
                 traffic: x,
@@ -148,7 +148,7 @@ pub fn later_line(run: Run, l: &[u8], out: &mut [u8], at: usize) -> Step
     requires { ⌜ at + reportMost + 2 * pduMost ≤ length (now out) ⌝ }
     ensures { λ r. ⌜ Gives (laterLine run (now (l .entry))) (now (out .entry)) at (now (out .exit)) r ⌝ }
 {
-    let n = run.next;
+    let n = run.lines;
     let c = run.channel.own.config;
     let t = run.channel.own.ticks;
     let m = run.channel.own.mode;
@@ -177,7 +177,7 @@ pub fn later_line(run: Run, l: &[u8], out: &mut [u8], at: usize) -> Step
     Step {
         run: Run {
             phase: Phase::Running,
-            next: runs::counted(n),
+            lines: runs::counted(n),
             channel: channel,
         },
         at: s.at,

@@ -18,18 +18,19 @@ use Rattle.runs.specs.declared.Step.{Step}
 -- ---- runs
 
 abbrev pub runOf : Phase → ℕ → Channel → Run
-runOf phase next channel = record { phase = phase; next = next; channel = channel }
+runOf phase lines channel = record { phase = phase; lines = lines; channel = channel }
 
--- the largest number of 64 bits, at which the count stands still
-abbrev pub lastNumber : ℕ
-lastNumber = 18446744073709551615
+-- the most lines that are counted: the largest number of 64 bits, at which the count stands still
+abbrev pub linesMost : ℕ
+linesMost = 18446744073709551615
 
+-- the count with one more line, which is the number of that line
 unfoldable pub counted : ℕ → ℕ
-counted n = cond (ltb n lastNumber) (n + 1) n
+counted n = cond (ltb n linesMost) (n + 1) n
 
 -- the run in a phase, with one more line counted
 unfoldable pub passed : Run → Phase → Run
-passed run phase = runOf phase (counted (run .next)) (run .channel)
+passed run phase = runOf phase (counted (run .lines)) (run .channel)
 
 -- ---- what a line comes to
 

@@ -29,10 +29,11 @@ pub enum Phase {
     Ended,
 }
 
-// A run between two lines, with the number of the next one. Until the configuration is judged the channel only holds it.
+// A run between two lines, with the count of those that came before. Until the configuration is judged the channel only holds
+// it.
 pub struct Run {
     pub phase: Phase,
-    pub next: u64,
+    pub lines: u64,
     pub channel: Channel,
 }
 
@@ -42,14 +43,14 @@ pub struct Step {
     pub at: usize,
 }
 
-// The largest line number.
-const LAST_NUMBER: u64 = 18446744073709551615;
+// The most lines that are counted, which is the largest number of a line.
+pub const LINES_MOST: u64 = 18446744073709551615;
 
-// The number behind a number.
+// The count with one more line: the number of that line.
 pub fn counted(n: u64) -> u64
     ensures { λ r. ⌜ r ≡ counted n ⌝ }
 {
-    if n < LAST_NUMBER { n + 1 } else { n }
+    if n < LINES_MOST { n + 1 } else { n }
 }
 
 // The run in a phase, with one more line counted.
@@ -59,7 +60,7 @@ pub fn passed(run: Run, phase: Phase) -> Run
     let channel = run.channel;
     Run {
         phase: phase,
-        next: counted(run.next),
+        lines: counted(run.lines),
         channel: channel,
     }
 }

@@ -71,6 +71,17 @@ lines-at s at e h i =
     let d : 0 < length (drop at s) = rw length-drop (omega arith) in
     rw (lines-step (drop at s) d, a, b, drop-drop (suc n) at s)
 
+-- a text has at most as many lines as bytes
+pub count-le : (s : List ℕ) → length (linesOf s) ≤ length s
+unfolding linesOf
+count-le [] = omega arith
+count-le (x ∷ xs) = by-byte (eqb x lineFeed) (linesOf xs) (count-le xs)
+  where
+    by-byte : (t : Bool) (ls : List (List ℕ)) → length ls ≤ length xs → length (cond t ([] ∷ ls) (before x ls)) ≤ suc (length xs)
+    by-byte true ls h = omega arith
+    by-byte false [] h = omega arith
+    by-byte false (l ∷ ls) h = omega arith
+
 -- ---- what a span says
 
 span-by : (s : List ℕ) (at : ℕ) (t : Bool) {a e : ℕ} → ltb at (length s) ≡ t → cond t (Line at (at + until lineFeed (drop at s))) End ≡ Line a e

@@ -1,11 +1,11 @@
 // A text in a lent slice, a line at a time.
 //
-// Promises: the place of any byte and of every line, for any text and any place. Leaves to others: what a line says
+// Promises: the place of any byte and of every line, for any text and any place, and how many lines there are. Leaves to others: what a line says
 // (`fields`), and a text that is read in blocks (`blocks`).
 ghost use mathlib.Core.Path.{_≡_};
 ghost use Prim.Native.Nat.{_+_};
-ghost use lib.ListN.{drop};
-ghost use Rattle.text.specs.Lines.{lineFeed, readerAt, spanAt, until};
+ghost use lib.ListN.{length, drop};
+ghost use Rattle.text.specs.Lines.{lineFeed, linesOf, readerAt, spanAt, until};
 
 // The byte that ends a line.
 pub const LINE_FEED: u8 = 10;
@@ -49,6 +49,19 @@ pub fn span_at(s: &[u8], at: usize) -> Span
     } else {
         Span::End
     }
+}
+
+// How many lines a text has; a last line without a line feed counts if it has a byte.
+pub fn line_count(s: &[u8]) -> usize
+    ensures { λ r. ⌜ r ≡ length (linesOf (now (s .entry))) ⌝ }
+{
+    let mut n: usize = 0;
+    let mut at: usize = 0;
+    while at < s.len() {
+        at = line_end(s, at) + 1;
+        n += 1;
+    }
+    n
 }
 
 // ---- the reader

@@ -1,45 +1,37 @@
-// A run over a trace that comes in blocks, and what it prints.
+// A run over a trace: over its whole text, or over blocks of it and the end of the input.
 //
-// Promises: the run after the whole lines of a block, the text that they print, and what is kept of the unfinished line;
-// what the end of the input prints; all by the definitions of specs/Trace and of the crates below. Buffers have sizes at
-// which there is always room, so no call is refused and none asks for anything. Leaves to others: reading and writing
-// (`cannm_trace`), and what is claimed of whole traces (`trace_claims`).
+// Promises: the answer to a block, the run and the kept part of a line after it, and the text that is printed; the same of
+// the end of the input and of a whole text; all by the definitions of specs/Trace and of the crates below. A block that is
+// refused changes nothing. Leaves to others: reading and writing (`cannm_trace`), and what is claimed of whole traces,
+// however they are cut into blocks (`trace_claims`).
+use answers::Answer;
+use blocks::LINE_MOST;
+use runs::LINES_MOST;
 use runs::Phase;
 use runs::Run;
 use runs::Step;
 use text::Span;
 ghost use mathlib.Core.Path.{_≡_};
+ghost use mathlib.Core.List.{_++_};
 ghost use Prim.Native.Nat.{_+_, _*_, _≤_};
+ghost use lib.Dec.{leb};
 ghost use lib.ListN.{length, take};
-ghost use Rattle.print.specs.Print.{Wrote};
-ghost use Rattle.blocks.specs.Blocks.{keeping, wholeLines};
-ghost use Rattle.text.specs.Filled.{filled};
+ghost use Rattle.text.specs.Filled.{fill, filled};
 ghost use Rattle.text.specs.Lines.{linesOf};
-ghost use Rattle.runs.specs.Runs.{Gives};
+ghost use Rattle.runs.specs.Runs.{Gives, linesMost};
 ghost use Rattle.trace_line.specs.TraceLine.{room};
 ghost use Rattle.call_lines.specs.CallLines.{linesFrom};
-ghost use Rattle.trace.specs.Trace.{printedFrom, start};
-
-// ---- sizes
-
-// What is read at once.
-const BLOCK: usize = 65536;
-
-// A block behind what is kept of a line.
-pub const BUFFER: usize = blocks::LINE_MOST + 1 + BLOCK;
-
-// What the lines of a full buffer can print, since a line has a byte at least, and the end of the input behind them.
-pub const OUTPUT: usize = trace_line::ROOM * (BUFFER + 1);
+ghost use Rattle.trace.specs.Trace.{GivesBlock, blockRoom, ended, fed, firstRun, keeping, refusedAt, start, taken, wholeFrom};
 
 // ---- the lines of a text
 
-// The lines of a text, printed from the start of the buffer on. There must be room for what each prints.
-fn lines(run: Run, text: &[u8], out: &mut [u8]) -> Step
-    requires { ⌜ room * length (now text) ≤ length (now out) ⌝ }
-    ensures { λ r. ⌜ Gives (linesFrom run (linesOf (now (text .entry)))) (now (out .entry)) 0 (now (out .exit)) r ⌝ }
+// The lines of a text, printed from a place of the buffer on. There must be room for what each prints.
+fn lines(run: Run, text: &[u8], out: &mut [u8], begin: usize) -> Step
+    requires { ⌜ begin + room * length (now text) ≤ length (now out) ⌝ }
+    ensures { λ r. ⌜ Gives (linesFrom run (linesOf (now (text .entry)))) (now (out .entry)) begin (now (out .exit)) r ⌝ }
 {
     let mut now = run;
-    let mut put: usize = 0;
+    let mut put = begin;
     let mut at = 0;
     loop {
         let phase = now.phase;
@@ -60,75 +52,163 @@ fn lines(run: Run, text: &[u8], out: &mut [u8]) -> Step
     }
 }
 
-// ---- the text in a buffer
+// A text from a run on, up to the end of the input, printed from a place of the buffer on. There must be room for what each
+// line prints, and for a line behind them.
+pub fn whole_from(run: Run, text: &[u8], out: &mut [u8], at: usize) -> Step
+    requires { ⌜ at + room * (length (now text) + 1) ≤ length (now out) ⌝ }
+    ensures { λ r. ⌜ Gives (wholeFrom run (now (text .entry))) (now (out .entry)) at (now (out .exit)) r ⌝ }
+{
+    let s = lines(run, text, out, at);
+    trace_line::finish(s.run, out, s.at)
+}
 
-// The run after a block, the place behind what it printed, and how many bytes are kept in front of the buffer.
-pub struct Ran {
-    pub step: Step,
+// ---- between two blocks
+
+// Room for what is kept of an unfinished line: with one byte more than it may have it is known to be too long.
+const KEPT_MOST: usize = LINE_MOST + 1;
+
+// A trace between two blocks: the run up to the last whole line, and how many bytes are kept of the unfinished one.
+pub struct Feed {
+    pub run: Run,
+    pub line: [u8; KEPT_MOST],
     pub kept: usize,
 }
 
-// The whole lines of a text, its unfinished line left out. There must be room for what each prints.
-fn whole_lines(run: Run, text: &[u8], out: &mut [u8]) -> Step
-    requires { ⌜ room * length (now text) ≤ length (now out) ⌝ }
-    ensures { λ r. ⌜ Gives (linesFrom run (wholeLines (now (text .entry)))) (now (out .entry)) 0 (now (out .exit)) r ⌝ }
+// A run with what is kept of an unfinished line.
+fn keeping(run: Run, bytes: &[u8]) -> Feed
+    ensures { λ r. ⌜ r ≡ keeping run (now (bytes .entry)) ⌝ }
 {
-    let whole = blocks::whole_len(text);
-    lines(run, &text[..whole], out)
-}
-
-// The whole lines of the text in the first n bytes of the buffer are run and printed; what is kept of its unfinished line
-// moves to the front. There must be room for what each line prints.
-fn block_of(run: Run, buf: &mut [u8], n: usize, out: &mut [u8]) -> Ran
-    requires { ⌜ room * length (now buf) ≤ length (now out) ⌝ }
-    ensures { λ r. ⌜ Gives (linesFrom run (wholeLines (take n (now (buf .entry))))) (now (out .entry)) 0 (now (out .exit)) (r .step) ⌝ }
-    ensures { λ r. ⌜ filled (r .kept) (now (buf .exit)) ≡ keeping n (now (buf .entry)) ⌝ }
-    ensures { λ r. ⌜ r .step .at ≤ length (now (out .entry)) ⌝ }
-{
-    let s = whole_lines(run, slices::part(buf, 0, n), out);
-    let kept = blocks::keep_unfinished(buf, n);
-    Ran {
-        step: s,
-        kept: kept,
+    let mut line = [0u8; KEPT_MOST];
+    slices::copy(bytes, &mut line);
+    Feed {
+        run: run,
+        line: line,
+        kept: bytes.len(),
     }
 }
 
-// The text in the first n bytes of the buffer, whose lines are the last of the input, and the end of the input behind them.
-// There must be room for what each line prints, and for a line behind them.
-fn last_lines(run: Run, buf: &[u8], n: usize, out: &mut [u8]) -> usize
-    requires { ⌜ room * (length (now buf) + 1) ≤ length (now out) ⌝ }
-    ensures { λ r. ⌜ Wrote (now (out .entry)) 0 (printedFrom run (take n (now (buf .entry)))) (now (out .exit)) r ⌝ }
-    ensures { λ r. ⌜ r ≤ length (now (out .entry)) ⌝ }
+// The run before the first line.
+fn first_run() -> Run
+    ensures { λ r. ⌜ r ≡ firstRun ⌝ }
 {
-    let s = lines(run, slices::part(buf, 0, n), out);
-    trace_line::finish(s.run, out, s.at)
+    let s = config_line::read_config(b"");
+    config_lines::holding(Phase::First, 0, s.config)
+}
+
+// ---- a block
+
+// The most bytes of a block.
+pub const BLOCK_MOST: usize = 512;
+
+// The most bytes of a block's text: what was kept before it, and the block.
+const TEXT_MOST: usize = KEPT_MOST + BLOCK_MOST;
+
+// Room for what a block prints, since each of its lines has a byte at least. The end of the input prints less.
+pub const BLOCK_ROOM: usize = trace_line::ROOM * TEXT_MOST;
+
+// The answer to a block, the trace behind it, and the place behind what is printed so far.
+pub struct Fed {
+    pub answer: Answer,
+    pub feed: Feed,
+    pub at: usize,
+}
+
+// What was kept, and a block behind it, in front of a buffer, as far as there is room. Answers how many bytes they are.
+fn put_text(line: &[u8], kept: usize, block: &[u8], text: &mut [u8]) -> usize
+    ensures { λ r. ⌜ filled r (now (text .exit)) ≡ fill (now (text .entry)) (take kept (now (line .entry)) ++ now (block .entry)) ⌝ }
+{
+    let before = slices::part(line, 0, kept);
+    slices::copy(before, text);
+    slices::put_part(text, before.len(), block);
+    before.len() + block.len()
+}
+
+// Have all lines of a text a number, behind so many lines? They are counted only where their bytes are too many: a text has
+// no more lines than bytes.
+fn lines_fit(lines: u64, text: &[u8]) -> bool
+    ensures { λ r. ⌜ r ≡ leb (lines + length (linesOf (now (text .entry)))) linesMost ⌝ }
+{
+    let left = LINES_MOST - lines;
+    if (text.len() as u64) <= left {
+        return true;
+    }
+    (text::line_count(text) as u64) <= left
+}
+
+// A block that is taken, by its text: its whole lines are run and printed, and what is needed of the unfinished line is kept.
+// There must be room for what each line prints.
+fn taken(run: Run, text: &[u8], out: &mut [u8], at: usize) -> Fed
+    requires { ⌜ at + room * length (now text) ≤ length (now out) ⌝ }
+    ensures { λ r. ⌜ GivesBlock (taken run (now (text .entry))) (now (out .entry)) at (now (out .exit)) r ⌝ }
+{
+    let end = blocks::whole_len(text);
+    let s = lines(run, slices::part(text, 0, end), out, at);
+    let feed = keeping(s.run, slices::part(text, end, KEPT_MOST));
+    Fed {
+        answer: Answer::Done,
+        feed: feed,
+        at: s.at,
+    }
+}
+
+// A block that is refused leaves all as it was.
+fn refused(feed: Feed, at: usize) -> Fed
+    ensures { λ r. ⌜ r ≡ refusedAt feed at ⌝ }
+{
+    Fed {
+        answer: Answer::Length,
+        feed: feed,
+        at: at,
+    }
+}
+
+// A block, printed from a place of the buffer on. There must be room for what a block can print.
+pub fn block_at(feed: Feed, block: &[u8], out: &mut [u8], at: usize) -> Fed
+    requires { ⌜ at + blockRoom ≤ length (now out) ⌝ }
+    ensures { λ r. ⌜ GivesBlock (fed feed (now (block .entry))) (now (out .entry)) at (now (out .exit)) r ⌝ }
+{
+    if BLOCK_MOST < block.len() {
+        return refused(feed, at);
+    }
+    let line = feed.line;
+    let mut buf = [0u8; TEXT_MOST];
+    let n = put_text(&line, feed.kept, block, &mut buf);
+    let text = slices::part(&buf, 0, n);
+    if lines_fit(feed.run.lines, text) {
+        return taken(feed.run, text, out, at);
+    }
+    refused(feed, at)
+}
+
+// The end of the input, printed from a place of the buffer on. There must be room for what a block can print.
+pub fn end_at(feed: Feed, out: &mut [u8], at: usize) -> Step
+    requires { ⌜ at + blockRoom ≤ length (now out) ⌝ }
+    ensures { λ r. ⌜ Gives (ended feed) (now (out .entry)) at (now (out .exit)) r ⌝ }
+{
+    let line = feed.line;
+    whole_from(feed.run, slices::part(&line, 0, feed.kept), out, at)
 }
 
 // ---- a trace in blocks
 
-// The run before the first line.
-pub fn start() -> Run
+// Before the first block.
+pub fn start() -> Feed
     ensures { λ r. ⌜ r ≡ start ⌝ }
 {
-    let s = config_line::read_config(b"");
-    config_lines::holding(Phase::First, config_lines::FIRST_NUMBER, s.config)
+    keeping(first_run(), b"")
 }
 
-// A block, behind what was kept before it: the text in the first n bytes of the buffer, or in all of it. Its whole lines are
-// run and printed; what is kept of its unfinished line moves to the front.
-pub fn block(run: Run, buf: &mut [u8; BUFFER], n: usize, out: &mut [u8; OUTPUT]) -> Ran
-    ensures { λ r. ⌜ Gives (linesFrom run (wholeLines (take n (now (buf .entry))))) (now (out .entry)) 0 (now (out .exit)) (r .step) ⌝ }
-    ensures { λ r. ⌜ filled (r .kept) (now (buf .exit)) ≡ keeping n (now (buf .entry)) ⌝ }
-    ensures { λ r. ⌜ r .step .at ≤ length (now (out .entry)) ⌝ }
+// A block of the text, which may end in a line: its whole lines are run and printed. One of more than 512 bytes, or one that
+// would bring the lines, an unfinished one counted, past the largest number of a line, is refused.
+pub fn block(feed: Feed, block: &[u8], out: &mut [u8; BLOCK_ROOM]) -> Fed
+    ensures { λ r. ⌜ GivesBlock (fed feed (now (block .entry))) (now (out .entry)) 0 (now (out .exit)) r ⌝ }
 {
-    block_of(run, buf, n, out)
+    block_at(feed, block, out, 0)
 }
 
-// The end of the input: what was kept is the text in the first n bytes of the buffer, or in all of it. Answers the place
-// behind what is printed.
-pub fn end(run: Run, buf: &[u8; BUFFER], n: usize, out: &mut [u8; OUTPUT]) -> usize
-    ensures { λ r. ⌜ Wrote (now (out .entry)) 0 (printedFrom run (take n (now (buf .entry)))) (now (out .exit)) r ⌝ }
-    ensures { λ r. ⌜ r ≤ length (now (out .entry)) ⌝ }
+// The end of the input: the unfinished line is the last, and a configuration that waits for line 2 is judged.
+pub fn end(feed: Feed, out: &mut [u8; BLOCK_ROOM]) -> Step
+    ensures { λ r. ⌜ Gives (ended feed) (now (out .entry)) 0 (now (out .exit)) r ⌝ }
 {
-    last_lines(run, buf, n, out)
+    end_at(feed, out, 0)
 }

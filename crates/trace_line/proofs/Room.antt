@@ -22,9 +22,9 @@ following-le run l = either-le (isRunning (run .phase)) _ _ (later-le run l) (om
 second-le : (run : Run) (l : List ℕ) → length (secondLine run l .text) ≤ room
 unfolding secondLine
 second-le run l =
-    let b = begun (run .channel .own .config) (run .next) in
+    let b = begun (run .channel .own .config) (run .lines) in
     either-le (isPartial l) (partialLine run l) (andThen b (following (b .run) l)) (omega (arith, partial-le run l))
-    (rw (length-append (b .text) (following (b .run) l .text)) (omega (arith, begun-length (run .channel .own .config) (run .next), following-le (b .run) l)))
+    (rw (length-append (b .text) (following (b .run) l .text)) (omega (arith, begun-length (run .channel .own .config) (run .lines), following-le (b .run) l)))
 
 -- what a line prints has room
 pub line-le : (run : Run) (l : List ℕ) → length (textOf run l) ≤ room
@@ -38,12 +38,12 @@ line-le run l = by-phase (run .phase)
     by-phase Ended = omega arith
 
 -- and so has what the end of the input prints
-pub ending-le : (run : Run) → length (ending run) ≤ room
+pub ending-le : (run : Run) → length (ending run .text) ≤ room
 unfolding ending
 ending-le run = by-phase (run .phase)
   where
-    by-phase : (p : Phase) → length (endingIn p run) ≤ room
+    by-phase : (p : Phase) → length (endingIn p run .text) ≤ room
     by-phase First = omega arith
-    by-phase Second = omega (arith, begun-length (run .channel .own .config) (run .next))
+    by-phase Second = omega (arith, begun-length (run .channel .own .config) (run .lines))
     by-phase Running = omega arith
     by-phase Ended = omega arith

@@ -1,4 +1,4 @@
--- What a line of a trace comes to, in any phase of its run, and what the end of the input prints. Assumes nothing.
+-- What a line of a trace comes to, in any phase of its run, and what the end of the input comes to. Assumes nothing.
 use mathlib.Core.Bool.{Bool, true, false, cond}
 use mathlib.Core.List.{List, [], _++_}
 use Prim.Native.Nat.{ℕ, _+_, _*_}
@@ -32,7 +32,7 @@ following run l = cond (isRunning (run .phase)) (laterLine run l) (outcome (pass
 unfoldable pub secondLine : Run → List ℕ → Outcome
 secondLine run l =
     cond (isPartial l) (partialLine run l)
-    (andThen (begun (run .channel .own .config) (run .next)) (following (begun (run .channel .own .config) (run .next) .run) l))
+    (andThen (begun (run .channel .own .config) (run .lines)) (following (begun (run .channel .own .config) (run .lines) .run) l))
 
 -- ---- every line
 
@@ -59,11 +59,11 @@ room = 10 + reportMost + 2 * pduMost
 -- ---- the end of the input
 
 -- a configuration that waits for line 2 is judged
-abbrev pub endingIn : Phase → Run → List ℕ
-endingIn First run = []
-endingIn Second run = begun (run .channel .own .config) (run .next) .text
-endingIn Running run = []
-endingIn Ended run = []
+abbrev pub endingIn : Phase → Run → Outcome
+endingIn First run = outcome run []
+endingIn Second run = begun (run .channel .own .config) (run .lines)
+endingIn Running run = outcome run []
+endingIn Ended run = outcome run []
 
-unfoldable pub ending : Run → List ℕ
+unfoldable pub ending : Run → Outcome
 ending run = endingIn (run .phase) run

@@ -1,7 +1,7 @@
 // A line of a trace in any phase of its run, and the end of the input.
 //
-// Promises: the run after any line and the text that it prints, by the definitions of specs/TraceLine; what the end of
-// the input prints. Leaves to others: what a line of the configuration (`config_lines`) and a line behind it (`replay`)
+// Promises: the run after any line and the text that it prints, by the definitions of specs/TraceLine; the same of the end of
+// the input. Leaves to others: what a line of the configuration (`config_lines`) and a line behind it (`replay`)
 // come to, and the run over all lines (`trace`).
 use runs::Phase;
 use runs::Run;
@@ -9,7 +9,6 @@ use runs::Step;
 ghost use mathlib.Core.Path.{_≡_};
 ghost use Prim.Native.Nat.{_+_, _*_, _≤_};
 ghost use lib.ListN.{length};
-ghost use Rattle.print.specs.Print.{Wrote};
 ghost use Rattle.runs.specs.Runs.{Gives};
 ghost use Rattle.trace_line.specs.TraceLine.{ending, following, isRunning, lineOf, room, secondLine};
 ghost use Rattle.report.specs.Report.{reportMost};
@@ -50,7 +49,7 @@ fn second_line(run: Run, l: &[u8], out: &mut [u8], at: usize) -> Step
     if pn_line::is_partial(l) {
         return config_lines::partial_line(run, l, out, at);
     }
-    let s = config_lines::begin(run.channel.own.config, run.next, out, at);
+    let s = config_lines::begin(run.channel.own.config, run.lines, out, at);
     follow(s.run, l, out, s.at)
 }
 
@@ -75,18 +74,15 @@ pub fn line(run: Run, l: &[u8], out: &mut [u8], at: usize) -> Step
 }
 
 // The end of the input: a configuration that waits for line 2 is judged. There must be room for a line.
-pub fn finish(run: Run, out: &mut [u8], at: usize) -> usize
+pub fn finish(run: Run, out: &mut [u8], at: usize) -> Step
     requires { ⌜ at + reportMost ≤ length (now out) ⌝ }
-    ensures { λ r. ⌜ Wrote (now (out .entry)) at (ending run) (now (out .exit)) r ⌝ }
+    ensures { λ r. ⌜ Gives (ending run) (now (out .entry)) at (now (out .exit)) r ⌝ }
 {
     let phase = run.phase;
     match phase {
-        Phase::Second => {
-            let s = config_lines::begin(run.channel.own.config, run.next, out, at);
-            s.at
-        }
-        Phase::First => at,
-        Phase::Running => at,
-        Phase::Ended => at,
+        Phase::Second => config_lines::begin(run.channel.own.config, run.lines, out, at),
+        Phase::First => Step { run: run, at: at },
+        Phase::Running => Step { run: run, at: at },
+        Phase::Ended => Step { run: run, at: at },
     }
 }

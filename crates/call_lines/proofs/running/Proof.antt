@@ -21,7 +21,7 @@ abbrev Inv-loop : tie.InvT-loop
 Inv-loop text from out₀ begin c t passes setup limits m₀ x₀ user₀ requests₀ era₀ eira₀ n₀ put₀ at₀ out m x user requests era eira n put at =
     Going (runIn n₀ c t m₀ x₀ user₀ requests₀ era₀ eira₀) (linesOf (drop from text)) out₀ begin out put (runIn n c t m x user requests era eira)
     (linesOf (drop at text))
-    × (put ≤ room * at)
+    × (put + room * (length text - at) ≤ length out₀)
     × (length out ≡ length out₀)
 
 abbrev μ-loop : tie.MeasureT-loop
@@ -50,7 +50,7 @@ later-line-in-place-requires : tie.Need-later-line-in-place-requires Inv-loop μ
 later-line-in-place-requires c κs =
     let f = facts (c .before .before .before .before .before .before .before .before .before .before .before) in
     let b = c .before .before .before .before .before .before .before .before .before .before .before .before .before .before .loop in
-    (judged (c .before .before .before .before .before .before), omega (arith, c .before .before .before .before .before .before .before .before .before .before .before .before .before .before .before .before .before .before .before .before .before .before .before .before .before .before .before .before .before .pre .2, f .0, b .inv .1, b .inv .2))
+    (judged (c .before .before .before .before .before .before), omega (arith, c .before .before .before .before .before .before .before .before .before .before .before .before .before .before .before .before .before .before .before .before .before .before .before .before .before .before .before .before .before .pre .1, f .0, b .inv .1, b .inv .2))
 
 loop-again : tie.Need-loop-again Inv-loop μ-loop
 unfolding lineIn
@@ -63,7 +63,7 @@ loop-again c =
     let end = c .before .before .before .before .before .before .before .before .before .before .before .before .before .before .before .before .before .first .given .0 .1 .0 in
     let g = rw (f .1) at (c .before .before .before .before .before .later-line-in-place .ensures) in (
       rw (c .counted .ensures) (going-on (rw (lines-at s (b .at) end (f .0) (f .2)) at (b .inv .0)) g),
-      omega (arith, f .2, g .text .next, line-le (runIn (b .n) (o .config) (o .ticks) (b .m) (b .x) (b .user) (b .requests) (b .era) (b .eira)) (take (end - b .at) (drop (b .at) s))),
+      omega (arith, f .0, f .2, b .inv .1, g .text .next, line-le (runIn (b .n) (o .config) (o .ticks) (b .m) (b .x) (b .user) (b .requests) (b .era) (b .eira)) (take (end - b .at) (drop (b .at) s))),
       wrote-length (g .text) ∙ b .inv .2,
     )
 
@@ -84,7 +84,7 @@ running-spec =
     (λ c κs. tt)
     (λ c κs. tt)
     (λ c κs. tt)
-    (λ c. (going-start _ _ _ _, c .before .before .before .before .before .before .before .before .before .before .before .before .before .before .pre .1, refl))
+    (λ c. (going-start _ _ _ _, omega (arith, c .before .before .before .before .before .before .before .before .before .before .before .before .before .before .pre .1), refl))
     (λ c κs. tt)
     (λ c. search needs)
     (λ c κs. tt)

@@ -12,15 +12,15 @@ returns : tie.Need-returns
 unfolding called repliedWith replyText
 returns c =
     let p = c .before .before in
-    let s = p .before .before .before .before in
+    let s = p .before .before .before .before .before in
     rw (← s .before .before .before .before .before .before .carry-out-in-place .ensures) (record {
       run = refl;
-      text = rw (p .before .letter .ensures, p .before .before .digit .ensures, s .sent-bytes .ensures) at (p .put-line .ensures);
+      text = rw (p .before .letter .ensures, p .before .before .digit .ensures, p .before .before .before .counted .ensures, s .sent-bytes .ensures) at (p .put-line .ensures);
     })
 
 put-line-requires : tie.Need-put-line-requires
 put-line-requires c κs =
-    let s = c .before .before .before in
+    let s = c .before .before .before .before in
     let r = s .before .before .before .before .before .before .carry-out-in-place in
     omega (arith, s .before .before .before .before .before .before .before .before .before .before .before .before .before .before .pre .1, ap length (s .sent-bytes .ensures), sent-le (r .result .sent) (s .before .before .before .before .before .before .before .before .before .before .before .before .before .before .args .c .layout .length) (r .last .1 .1 .1 .1 .1 .1 .1 .1 .1 .1 .1 .0))
 
@@ -31,6 +31,7 @@ called-spec =
     (λ c. search needs)
     (λ c κs. c .before .before .before .before .before .before .before .pre .0)
     (λ c. search needs)
+    (λ c κs. tt)
     (λ c κs. tt)
     (λ c κs. tt)
     (λ c κs. tt)

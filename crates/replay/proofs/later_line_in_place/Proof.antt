@@ -18,8 +18,8 @@ returns-2 : tie.Need-returns-2
 unfolding laterLine unread passed
 returns-2 c =
     let p = c .before .before in
-    let k = p .before .before in
-    rw (← k .before .before .before .read .ensures, k .enum-told .given .1) (record { run = refl; text = p .put-unreadable .ensures })
+    let k = p .before .before .before in
+    rw (← k .before .before .before .read .ensures, k .enum-told .given .1) (record { run = refl; text = rw (p .before .counted .ensures) at (p .put-unreadable .ensures) })
 
 pub later-line-in-place-spec : {M : Type 1} → statement M
 later-line-in-place-spec =
@@ -31,7 +31,8 @@ later-line-in-place-spec =
     (λ c. search needs)
     (λ c κs. let s = c .before .before .before .before .before .before .before .before .before .before .before .before .before .before in (s .pre .0, omega (arith, s .pre .1)))
     (λ c. search needs)
-    (λ c κs. omega (arith, c .before .before .before .before .before .before .before .before .pre .1))
+    (λ c κs. tt)
+    (λ c κs. omega (arith, c .before .before .before .before .before .before .before .before .before .pre .1))
     (λ c. search needs)
     returns
     (λ c. search needs)

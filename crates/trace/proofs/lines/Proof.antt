@@ -15,11 +15,13 @@ use Rattle.trace.proofs.lines.Statement.{statement}
 use Rattle.trace.proofs.lines.Tie as tie
 
 abbrev Inv-loop : tie.InvT-loop
-Inv-loop text out₀ now₀ put₀ at₀ out now put at =
-    Going now₀ (linesOf text) out₀ 0 out put now (linesOf (drop at text)) × (put ≤ room * at) × (length out ≡ length out₀)
+Inv-loop text out₀ begin now₀ put₀ at₀ out now put at =
+    Going now₀ (linesOf text) out₀ begin out put now (linesOf (drop at text))
+    × (put + room * (length text - at) ≤ length out₀)
+    × (length out ≡ length out₀)
 
 abbrev μ-loop : tie.MeasureT-loop
-μ-loop text out₀ now₀ put₀ at₀ out now put at = length text + 1 - at
+μ-loop text out₀ begin now₀ put₀ at₀ out now put at = length text + 1 - at
 
 -- what is known of the places of a line that was found
 facts : (c : tie.After-first Inv-loop μ-loop)
@@ -32,7 +34,7 @@ facts c = span-line (c .before .before .before .before .before .before .before .
 running-requires : tie.Need-running-requires Inv-loop μ-loop
 running-requires c κs =
     let b = c .before .before .before .loop in
-    (running-true _ (sym (c .before .before .is-running .ensures) ∙ c .before .if1 .taken), b .inv .1, omega (arith, b .inv .2))
+    (running-true _ (sym (c .before .before .is-running .ensures) ∙ c .before .if1 .taken), omega (arith, b .inv .1, b .inv .2))
 
 returns : tie.Need-returns Inv-loop μ-loop
 returns c = going-rest (c .before .before .before .before .before .before .loop .inv .0) (c .before .before .running .ensures)
@@ -45,7 +47,7 @@ loop-again c =
     let end = c .before .before .before .before .before .before .before .first .given .0 .1 .0 in
     let g = rw (f .1) at (c .before .before .before .line .ensures) in (
       going-on (rw (lines-at s (b .at) end (f .0) (f .2)) at (b .inv .0)) g,
-      omega (arith, f .2, g .text .next, line-le (b .now) (take (end - b .at) (drop (b .at) s))),
+      omega (arith, f .0, f .2, b .inv .1, g .text .next, line-le (b .now) (take (end - b .at) (drop (b .at) s))),
       wrote-length (g .text) ∙ b .inv .2,
     )
 

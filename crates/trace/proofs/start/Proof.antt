@@ -6,7 +6,7 @@ use Rattle.trace.proofs.start.Tie as tie
 
 returns : tie.Need-returns
 unfolding start
-returns c = rw (c .holding .ensures, c .before .read-config .ensures)
+returns c = rw (c .keeping .ensures, c .before .before .first-run .ensures)
 
 pub start-spec : {M : Type 1} → statement M
-start-spec = tie.close (tie.spec (λ c. search needs) (λ c κs. tt) (λ c κs. tt) returns)
+start-spec = tie.close (tie.spec (λ c κs. tt) (λ c. search needs) (λ c κs. tt) returns)

@@ -1,4 +1,5 @@
 -- `trace_line::finish` meets its contract. Assumes nothing.
+use mathlib.Core.Path.{refl}
 use native.Mathlib.Omega.{arith}
 use borrow.Author.Needs.{needs}
 use Rattle.print.proofs.Wrote.{wrote-none}
@@ -8,19 +9,19 @@ use Rattle.trace_line.proofs.finish.Tie as tie
 
 returns : tie.Need-returns
 unfolding ending
-returns c = rw (c .before .before .before .before .enum-told .given .1) (c .before .before .begin .ensures .text)
+returns c = rw (c .before .before .before .before .enum-told .given .1) (c .before .before .begin .ensures)
 
 returns-2 : tie.Need-returns-2
 unfolding ending
-returns-2 c = rw (c .enum-told2 .given .1) (wrote-none _ _)
+returns-2 c = rw (c .enum-told2 .given .1) (record { run = refl; text = wrote-none _ _ })
 
 returns-3 : tie.Need-returns-3
 unfolding ending
-returns-3 c = rw (c .enum-told3 .given .1) (wrote-none _ _)
+returns-3 c = rw (c .enum-told3 .given .1) (record { run = refl; text = wrote-none _ _ })
 
 returns-4 : tie.Need-returns-4
 unfolding ending
-returns-4 c = rw (c .enum-told4 .given .1) (wrote-none _ _)
+returns-4 c = rw (c .enum-told4 .given .1) (record { run = refl; text = wrote-none _ _ })
 
 pub finish-spec : {M : Type 1} → statement M
 finish-spec =
