@@ -5,119 +5,125 @@
 // written; that they are the input's and the text's is tested.
 use libc::STDIN_FILENO;
 use libc::STDOUT_FILENO;
-use runs::Run;
-use trace::BUFFER;
-use trace::OUTPUT;
+use trace::BLOCK_MOST;
+use trace::BLOCK_ROOM;
+use trace::Feed;
 ghost use mathlib.Core.Path.{_≡_};
 ghost use Prim.Native.Nat.{_+_, _≤_};
 ghost use lib.ListN.{length};
-ghost use Rattle.blocks.specs.Blocks.{lineMost};
+ghost use Rattle.trace.specs.Trace.{blockRoom};
 
-// ---- reading
+// ---- sizes
 
-enum Input {
-    More,
-    End,
-    Failed,
-}
+// What is read at once, in many blocks, since a read takes far longer than a block.
+const INPUT: usize = 65536;
 
-// How many bytes of the buffer have content after a read.
-struct Got {
-    all: usize,
-    input: Input,
-}
-
-// One read behind what is kept.
-fn read_more(buf: &mut [u8], kept: usize) -> Got
-    requires { ⌜ kept ≤ length (now buf) ⌝ }
-    ensures { λ r. ⌜ r .all ≤ length (now (buf .entry)) ⌝ }
-{
-    let got = libc::read(STDIN_FILENO, &mut buf[kept..]);
-    if got < 0 {
-        return Got {
-            all: kept,
-            input: Input::Failed,
-        };
-    }
-    if got == 0 {
-        return Got {
-            all: kept,
-            input: Input::End,
-        };
-    }
-    Got {
-        all: kept + io::count(got, &buf[kept..]),
-        input: Input::More,
-    }
-}
+// What is printed before it is written: more than a read often prints.
+const OUTPUT: usize = 262144;
 
 // ---- writing
 
-// The first n bytes of the output. Answers whether all were written.
-fn write_front(out: &[u8], n: usize) -> bool
-    requires { ⌜ n ≤ length (now out) ⌝ }
+// The trace between two blocks, the place behind what is printed and not yet written, and whether there is to be another
+// block.
+struct State {
+    feed: Feed,
+    put: usize,
+    more: bool,
+}
+
+// What is printed is written; where that fails, there is no more to do.
+fn written(st: State, out: &[u8]) -> State
+    ensures { λ r. ⌜ r .put ≡ 0 ⌝ }
 {
-    io::write_all(STDOUT_FILENO, &out[..n])
+    let ok = io::write_all(STDOUT_FILENO, slices::part(out, 0, st.put));
+    let feed = st.feed;
+    State {
+        feed: feed,
+        put: 0,
+        more: st.more & ok,
+    }
+}
+
+// There is room for what a block prints, which the buffer must have.
+fn with_room(st: State, out: &[u8]) -> State
+    requires { ⌜ blockRoom ≤ length (now out) ⌝ }
+    ensures { λ r. ⌜ r .put + blockRoom ≤ length (now (out .entry)) ⌝ }
+{
+    if st.put <= out.len() - BLOCK_ROOM {
+        return st;
+    }
+    written(st, out)
+}
+
+// ---- blocks
+
+// One block. No input is so long that a block is refused; should one be, the lines of the trace are known up to it alone, so
+// that nothing more is printed.
+fn block(st: State, bytes: &[u8], out: &mut [u8; OUTPUT]) -> State {
+    let s = with_room(st, out);
+    let r = trace::block_at(s.feed, bytes, out, s.put);
+    let answer = r.answer;
+    let feed = r.feed;
+    State {
+        feed: feed,
+        put: r.at,
+        more: s.more & refusals::is_done(answer),
+    }
+}
+
+// What was read, block by block, and all that it prints is written.
+fn blocks(st: State, text: &[u8], out: &mut [u8; OUTPUT]) -> State {
+    let mut now = st;
+    let mut at: usize = 0;
+    while at < text.len() {
+        now = block(now, slices::part(text, at, BLOCK_MOST), out);
+        if !now.more {
+            break;
+        }
+        at += BLOCK_MOST;
+    }
+    written(now, out)
+}
+
+// The end of the input.
+fn end(st: State, out: &mut [u8; OUTPUT]) {
+    let s = with_room(st, out);
+    let r = trace::end_at(s.feed, out, s.put);
+    io::write_all(STDOUT_FILENO, slices::part(out, 0, r.at));
 }
 
 // ---- the loop
 
-// The run between two turns, how many bytes are kept in front of the buffer, and whether there is to be another turn.
-struct State {
-    run: Run,
-    kept: usize,
-    more: bool,
-}
-
 // The state after the last turn.
-fn stopped(st: State) -> State
-    ensures { λ r. ⌜ r .kept ≡ st .kept ⌝ }
-{
-    let run = st.run;
+fn stopped(st: State) -> State {
+    let feed = st.feed;
     State {
-        run: run,
-        kept: st.kept,
+        feed: feed,
+        put: st.put,
         more: false,
     }
 }
 
 // One read, and what it brings. After a write that fails, nothing more is read. After a read that fails, nothing more is
 // printed: what the unfinished line would have said is not known.
-fn turn(st: State, buf: &mut [u8; BUFFER], out: &mut [u8; OUTPUT]) -> State
-    requires { ⌜ st .kept ≤ lineMost + 1 ⌝ }
-    ensures { λ r. ⌜ r .kept ≤ lineMost + 1 ⌝ }
-{
-    let kept = st.kept;
-    let g = read_more(buf, kept);
-    let all = g.all;
-    let input = g.input;
-    match input {
-        Input::More => {
-            let r = trace::block(st.run, buf, all, out);
-            let s = r.step;
-            let at = s.at;
-            let ok = write_front(out, at);
-            let run = s.run;
-            State {
-                run: run,
-                kept: r.kept,
-                more: ok,
-            }
-        }
-        Input::End => {
-            let n = trace::end(st.run, buf, kept, out);
-            write_front(out, n);
-            stopped(st)
-        }
-        Input::Failed => stopped(st),
+fn turn(st: State, buf: &mut [u8; INPUT], out: &mut [u8; OUTPUT]) -> State {
+    let got = libc::read(STDIN_FILENO, buf);
+    if got < 0 {
+        return stopped(st);
     }
+    if got == 0 {
+        end(st, out);
+        return stopped(st);
+    }
+    let n = io::count(got, buf);
+    blocks(st, slices::part(buf, 0, n), out)
 }
 
 // The turns are counted only so that the loop is seen to end: there are more than any input has bytes.
-fn run_all(buf: &mut [u8; BUFFER], out: &mut [u8; OUTPUT]) {
+fn run_all(buf: &mut [u8; INPUT], out: &mut [u8; OUTPUT]) {
     let mut st = State {
-        run: trace::start(),
-        kept: 0,
+        feed: trace::start(),
+        put: 0,
         more: true,
     };
     let mut turns = 18446744073709551615u64;
@@ -131,7 +137,7 @@ fn run_all(buf: &mut [u8; BUFFER], out: &mut [u8; OUTPUT]) {
 }
 
 fn main() {
-    let mut buf = [0u8; BUFFER];
+    let mut buf = [0u8; INPUT];
     let mut out = [0u8; OUTPUT];
     run_all(&mut buf, &mut out);
 }

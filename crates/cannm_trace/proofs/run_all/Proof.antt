@@ -1,12 +1,10 @@
 -- `cannm_trace::run_all` meets its contract: the turns that are left fall. Assumes nothing.
-use Prim.Native.Nat.{_+_, _≤_}
 use native.Mathlib.Omega.{arith}
-use Rattle.blocks.specs.Blocks.{lineMost}
 use Rattle.cannm_trace.proofs.run_all.Statement.{statement}
 use Rattle.cannm_trace.proofs.run_all.Tie as tie
 
 abbrev Inv-loop : tie.InvT-loop
-Inv-loop buf₀ out₀ st₀ turns₀ buf out st turns = st .kept ≤ lineMost + 1
+Inv-loop buf₀ out₀ st₀ turns₀ buf out st turns = Unit {0}
 
 abbrev μ-loop : tie.MeasureT-loop
 μ-loop buf₀ out₀ st₀ turns₀ buf out st turns = turns
@@ -18,10 +16,10 @@ run-all-spec =
     Inv-loop
     μ-loop
     (λ c κs. tt)
+    (λ c. tt)
+    (λ c κs. tt)
     (λ c. omega arith)
-    (λ c κs. omega arith)
     (λ c. omega arith)
-    (λ c. omega arith)
-    (λ c. omega arith)
+    (λ c. tt)
     (λ c. tt)
     (λ c. tt))
