@@ -16,7 +16,8 @@ pub enum Answer {
     State,
     // The call is not for a passive channel.
     Passive,
-    // A PDU, user data or PN bytes not of the configured length, or a frame buffer that is too short.
+    // A PDU, user data or PN bytes not of the configured length, or a frame buffer that is too short; a block of a trace that
+    // is too long, or that has too many lines.
     Length,
     // The call is for a channel with partial networking on.
     PnOff,

@@ -8,7 +8,6 @@ use libc::STDOUT_FILENO;
 use trace::BLOCK_MOST;
 use trace::BLOCK_ROOM;
 use trace::Feed;
-ghost use mathlib.Core.Path.{_≡_};
 ghost use Prim.Native.Nat.{_+_, _≤_};
 ghost use lib.ListN.{length};
 ghost use Rattle.trace.specs.Trace.{blockRoom};
@@ -23,112 +22,102 @@ const OUTPUT: usize = 262144;
 
 // ---- writing
 
-// The trace between two blocks, the place behind what is printed and not yet written, and whether there is to be another
-// block.
-struct State {
-    feed: Feed,
-    put: usize,
-    more: bool,
+// Where the next text goes in the output, and whether all before it that was to be written is.
+struct Place {
+    at: usize,
+    ok: bool,
 }
 
-// What is printed is written; where that fails, there is no more to do.
-fn written(st: State, out: &[u8]) -> State
-    ensures { λ r. ⌜ r .put ≡ 0 ⌝ }
-{
-    let ok = io::write_all(STDOUT_FILENO, slices::part(out, 0, st.put));
-    let feed = st.feed;
-    State {
-        feed: feed,
-        put: 0,
-        more: st.more & ok,
-    }
+// The first n bytes of the output are written.
+fn written(out: &[u8], n: usize) -> bool {
+    io::write_all(STDOUT_FILENO, slices::part(out, 0, n))
 }
 
-// There is room for what a block prints, which the buffer must have.
-fn with_room(st: State, out: &[u8]) -> State
+// A place with room for what a block prints, where the output is full up to another; it must have that room.
+fn with_room(out: &[u8], at: usize) -> Place
     requires { ⌜ blockRoom ≤ length (now out) ⌝ }
-    ensures { λ r. ⌜ r .put + blockRoom ≤ length (now (out .entry)) ⌝ }
+    ensures { λ r. ⌜ r .at + blockRoom ≤ length (now (out .entry)) ⌝ }
 {
-    if st.put <= out.len() - BLOCK_ROOM {
-        return st;
+    if at <= out.len() - BLOCK_ROOM {
+        return Place { at: at, ok: true };
     }
-    written(st, out)
+    Place {
+        at: 0,
+        ok: written(out, at),
+    }
 }
 
 // ---- blocks
 
-// One block. No input is so long that a block is refused; should one be, the lines of the trace are known up to it alone, so
-// that nothing more is printed.
-fn block(st: State, bytes: &[u8], out: &mut [u8; OUTPUT]) -> State {
-    let s = with_room(st, out);
-    let r = trace::block_at(s.feed, bytes, out, s.put);
-    let answer = r.answer;
-    let feed = r.feed;
-    State {
-        feed: feed,
-        put: r.at,
-        more: s.more & refusals::is_done(answer),
-    }
+// The trace between two blocks, and whether there is to be another.
+struct State {
+    feed: Feed,
+    more: bool,
 }
 
-// What was read, block by block, and all that it prints is written.
-fn blocks(st: State, text: &[u8], out: &mut [u8; OUTPUT]) -> State {
-    let mut now = st;
+// What was read, block by block, and all that it prints is written. No input is so long that a block is refused; should one
+// be, nothing more is printed: what the lines behind it would have said is not known.
+fn blocks(feed: Feed, text: &[u8], out: &mut [u8; OUTPUT]) -> State {
+    let mut now = feed;
+    let mut ok = true;
+    let mut put: usize = 0;
     let mut at: usize = 0;
     while at < text.len() {
-        now = block(now, slices::part(text, at, BLOCK_MOST), out);
-        if !now.more {
+        let p = with_room(out, put);
+        let r = trace::block_at(now, slices::part(text, at, BLOCK_MOST), out, p.at);
+        let answer = r.answer;
+        now = r.feed;
+        put = r.at;
+        ok = p.ok & refusals::is_done(answer);
+        if !ok {
             break;
         }
         at += BLOCK_MOST;
     }
-    written(now, out)
+    State {
+        feed: now,
+        more: ok & written(out, put),
+    }
 }
 
 // The end of the input.
-fn end(st: State, out: &mut [u8; OUTPUT]) {
-    let s = with_room(st, out);
-    let r = trace::end_at(s.feed, out, s.put);
-    io::write_all(STDOUT_FILENO, slices::part(out, 0, r.at));
+fn end(feed: Feed, out: &mut [u8; OUTPUT]) {
+    let r = trace::end_at(feed, out, 0);
+    written(out, r.at);
 }
 
 // ---- the loop
 
-// The state after the last turn.
-fn stopped(st: State) -> State {
-    let feed = st.feed;
-    State {
-        feed: feed,
-        put: st.put,
-        more: false,
-    }
-}
-
 // One read, and what it brings. After a write that fails, nothing more is read. After a read that fails, nothing more is
 // printed: what the unfinished line would have said is not known.
-fn turn(st: State, buf: &mut [u8; INPUT], out: &mut [u8; OUTPUT]) -> State {
+fn turn(feed: Feed, buf: &mut [u8; INPUT], out: &mut [u8; OUTPUT]) -> State {
     let got = libc::read(STDIN_FILENO, buf);
     if got < 0 {
-        return stopped(st);
+        return State {
+            feed: feed,
+            more: false,
+        };
     }
     if got == 0 {
-        end(st, out);
-        return stopped(st);
+        end(feed, out);
+        return State {
+            feed: feed,
+            more: false,
+        };
     }
     let n = io::count(got, buf);
-    blocks(st, slices::part(buf, 0, n), out)
+    blocks(feed, slices::part(buf, 0, n), out)
 }
 
 // The turns are counted only so that the loop is seen to end: there are more than any input has bytes.
 fn run_all(buf: &mut [u8; INPUT], out: &mut [u8; OUTPUT]) {
     let mut st = State {
         feed: trace::start(),
-        put: 0,
         more: true,
     };
     let mut turns = 18446744073709551615u64;
     while 0 < turns {
-        st = turn(st, buf, out);
+        st = turn(st.feed, buf, out);
         if !st.more {
             break;
         }

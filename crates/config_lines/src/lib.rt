@@ -45,7 +45,13 @@ fn broken(run: Run, out: &mut [u8], at: usize) -> Step
     requires { ⌜ at + reportMost ≤ length (now out) ⌝ }
     ensures { λ r. ⌜ Gives (broken run) (now (out .entry)) at (now (out .exit)) r ⌝ }
 {
-    let p = runs::put_bare(out, at, runs::counted(run.lines), runs::UNREADABLE_DIGIT, print::DASH);
+    let p = runs::put_bare(
+        out,
+        at,
+        runs::counted(run.lines),
+        runs::UNREADABLE_DIGIT,
+        print::DASH,
+    );
     Step {
         run: runs::passed(run, Phase::Ended),
         at: p,

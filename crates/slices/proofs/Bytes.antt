@@ -1,13 +1,16 @@
 -- Laws of bytes stored one after the other, for any lists. Assumes nothing.
 use mathlib.Core.Path.{_≡_, refl, ap, sym, _∙_}
+use mathlib.Core.Bool.{Bool, true, false}
 use mathlib.Core.List.{List, [], _∷_, _++_, append-nil}
 use mathlib.Core.Logic.{_⊎_, inl, inr}
-use Prim.Native.Nat.{ℕ, zero, suc, _+_, _-_, _<_, _≤_}
+use Prim.Native.Nat.{ℕ, zero, suc, _+_, _-_, _<_, _≤_, min}
 use native.Mathlib.Nat.{add-zero, add-suc, suc-add, le-of-suc-le-suc, not-suc-le-zero}
 use native.Mathlib.Numerals.{add-one}
 use native.Mathlib.Omega.{arith}
+use lib.Dec.{leb}
 use lib.ListN.{length, getD, set, take, drop, drop-of-length-le, length-drop, length-set}
 use lib.Seq.{sets, drop-cons, set-out, take-all, getD-set-same, getD-set-other, getD-take, getD-drop, ext-getD, length-take-le}
+use borrow.Author.Tests.{leb-true, leb-false}
 
 -- one byte more: what is left to store from place i on
 pub sets-one : (l : List ℕ) (i : ℕ) (vs : List ℕ) → i < length vs
@@ -15,7 +18,7 @@ pub sets-one : (l : List ℕ) (i : ℕ) (vs : List ℕ) → i < length vs
 sets-one l i vs h = rw (drop-cons vs i 0, add-one i)
 
 -- nothing is left past the end
-pub sets-none : (l : List ℕ) (i : ℕ) (vs : List ℕ) → length vs ≤ i → sets l i (drop i vs) ≡ l
+sets-none : (l : List ℕ) (i : ℕ) (vs : List ℕ) → length vs ≤ i → sets l i (drop i vs) ≡ l
 sets-none l i vs h = rw (drop-of-length-le vs h)
 
 sets-nil : (i : ℕ) (vs : List ℕ) → sets [] i vs ≡ []
@@ -47,6 +50,14 @@ sets-back i l vs =
 pub sets-out : (l : List ℕ) (i : ℕ) (vs : List ℕ) → length l ≤ i → sets l i vs ≡ l
 sets-out l i [] h = refl
 sets-out l i (v ∷ vs) h = rw (set-out l i v h) (sets-out l (suc i) vs (omega arith))
+
+-- nothing is left past the end of either
+pub sets-done : (l : List ℕ) (i : ℕ) (vs : List ℕ) → min (length vs) (length l) ≤ i → sets l i (drop i vs) ≡ l
+sets-done l i vs h = by-test (leb (length vs) i) refl
+  where
+    by-test : (t : Bool) → leb (length vs) i ≡ t → sets l i (drop i vs) ≡ l
+    by-test true e = sets-none l i vs (leb-true (length vs) i e)
+    by-test false e = sets-out l i (drop i vs) (omega (arith, leb-false (length vs) i e))
 
 -- a list that is stored over whole is the other's beginning
 pub sets-over : (l vs : List ℕ) → length l ≤ length vs → sets l 0 vs ≡ take (length l) vs

@@ -19,9 +19,10 @@ pub fn put(frame: &mut [u8], at: usize, b: u8)
 pub fn copy(src: &[u8], dst: &mut [u8])
     ensures { λ r. ⌜ now (dst .exit) ≡ sets (now (dst .entry)) 0 (now (src .entry)) ⌝ }
 {
+    let n = choice::lesser(src.len(), dst.len());
     let mut i: usize = 0;
-    while i < src.len() {
-        put(dst, i, src[i]);
+    while i < n {
+        dst[i] = src[i];
         i = i + 1;
     }
 }

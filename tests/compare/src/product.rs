@@ -8,6 +8,27 @@ pub const WORDS: usize = 177;
 /// A whole channel.
 pub type Words = [u64; WORDS];
 
+/// How many bytes are lent for what one block of a trace prints.
+pub const PAGE: usize = 38_545;
+
+/// What one block of a trace prints, and the bytes behind it.
+pub type Page = [u8; PAGE];
+
+/// Before which block of a trace, counted from 0, the count of finished lines is set, and to what.
+#[derive(Clone, Copy, Debug, PartialEq, Eq)]
+pub struct Preset {
+    pub before: u64,
+    pub lines: u64,
+}
+
+impl Preset {
+    /// The lines are counted from 0 on.
+    pub const NEVER: Preset = Preset {
+        before: u64::MAX,
+        lines: 0,
+    };
+}
+
 #[repr(C)]
 #[derive(Clone, Copy, Debug, PartialEq, Eq)]
 pub struct Ticks {
@@ -76,9 +97,31 @@ pub struct Shown {
     pub lowest: u32,
 }
 
+/// A whole trace in blocks: the bytes that were printed, whether they had room or not, and, before the end of
+/// the input, the finished lines and the bytes kept of the unfinished one.
+#[repr(C)]
+#[derive(Clone, Copy, Debug, PartialEq, Eq)]
+pub struct InBlocks {
+    pub printed: u64,
+    pub lines: u64,
+    pub kept: u64,
+}
+
+/// One block of a trace: where on the page its output ends, and the counts after it.
+#[repr(C)]
+#[derive(Clone, Copy, Debug, PartialEq, Eq)]
+pub struct AfterBlock {
+    pub answer: u64,
+    pub at: u64,
+    pub lines: u64,
+    pub kept: u64,
+}
+
 /// The functions as the libraries export them.
 pub mod raw {
-    use super::{Begun, Called, Composed, Filter, Header, Place, Shown, Ticks};
+    use super::{
+        AfterBlock, Begun, Called, Composed, Filter, Header, InBlocks, Page, Place, Shown, Ticks,
+    };
 
     extern "C" {
         // libcannm_c.a, as include/cannm.h declares them
@@ -160,6 +203,31 @@ pub mod raw {
             eira: *mut u8,
             eira_length: usize,
         ) -> Shown;
+
+        // libtrace_host.a
+        pub fn test_trace_in_blocks(
+            text: *const u8,
+            text_length: usize,
+            ends: *const u64,
+            ends_length: usize,
+            preset_before: u64,
+            preset: u64,
+            answers: *mut u8,
+            answers_length: usize,
+            out: *mut u8,
+            out_length: usize,
+        ) -> InBlocks;
+        pub fn test_trace_block(
+            text: *const u8,
+            text_length: usize,
+            ends: *const u64,
+            ends_length: usize,
+            preset_before: u64,
+            preset: u64,
+            block: *const u8,
+            block_length: usize,
+            page: *mut Page,
+        ) -> AfterBlock;
     }
 }
 
@@ -312,6 +380,57 @@ pub fn status(words: &Words, era: &mut [u8], eira: &mut [u8]) -> Shown {
             era.len(),
             eira.as_mut_ptr(),
             eira.len(),
+        )
+    }
+}
+
+/// A trace in blocks, each ending before the byte that `ends` names, and then the end of the input.
+pub fn trace_in_blocks(
+    text: &[u8],
+    ends: &[u64],
+    preset: Preset,
+    answers: &mut [u8],
+    out: &mut [u8],
+) -> InBlocks {
+    // SAFETY: each pointer is lent with the length of its slice, and only the answers and the output, which do
+    // not overlap, are written.
+    unsafe {
+        raw::test_trace_in_blocks(
+            text.as_ptr(),
+            text.len(),
+            ends.as_ptr(),
+            ends.len(),
+            preset.before,
+            preset.lines,
+            answers.as_mut_ptr(),
+            answers.len(),
+            out.as_mut_ptr(),
+            out.len(),
+        )
+    }
+}
+
+/// One block behind the others of a trace, whose output is thrown away.
+pub fn trace_block(
+    text: &[u8],
+    ends: &[u64],
+    preset: Preset,
+    block: &[u8],
+    page: &mut Page,
+) -> AfterBlock {
+    // SAFETY: each pointer but the last is lent with the length of its slice; the page has the one length that
+    // it can have, and it alone is written.
+    unsafe {
+        raw::test_trace_block(
+            text.as_ptr(),
+            text.len(),
+            ends.as_ptr(),
+            ends.len(),
+            preset.before,
+            preset.lines,
+            block.as_ptr(),
+            block.len(),
+            page,
         )
     }
 }
