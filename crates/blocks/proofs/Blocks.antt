@@ -1,17 +1,18 @@
--- A run over the blocks of a text, which keeps only the start of an unfinished line, gives what the run over the lines of the
--- whole text gives: for every way to cut the text into blocks, and for every state that the run carries along. Assumes nothing.
+-- A text that grows by blocks: its whole lines grow by those of its unfinished line and the block, and of the unfinished line the
+-- start is enough. So a run over blocks, which keeps only that, gives what the run over the lines of the whole text gives: for
+-- every block, and for every state that the run carries along. Assumes nothing.
 use mathlib.Core.Path.{_≡_, refl, sym, ap, _∙_}
 use mathlib.Core.Bool.{Bool, true, false, cond}
 use mathlib.Core.List.{List, [], _∷_, _++_, append-assoc, append-nil, map}
 use Prim.Native.Nat.{ℕ, zero, suc, _+_, _≤_}
 use native.Mathlib.Omega.{arith}
 use lib.Dec.{eqb}
-use lib.ListN.{length, take, drop}
-use lib.Seq.{take-append-add, drop-append-add, take-take}
+use lib.ListN.{length, take, drop, length-append, take-append-drop}
+use lib.Seq.{take-append-add, drop-append-add, take-take, take-length, drop-length, length-take-le}
 use Rattle.text.specs.Lines.{before, lineFeed, linesOf}
-use Rattle.blocks.specs.Blocks.{cut, keptOf, lineMost, wholeLen, wholeLines, wholeWith}
+use Rattle.blocks.specs.Blocks.{cut, keptOf, lineMost, unfinished, wholeLen, wholeLines, wholeWith}
 use Rattle.blocks.proofs.Whole.{whole-le}
-use Rattle.blocks.specs.Runs.{after, afterBlocks, joined, outs, outsBlocks}
+use Rattle.blocks.specs.Runs.{after, outs}
 
 -- ---- whole lines and the unfinished line
 
@@ -26,7 +27,7 @@ some-line x xs = by-byte (eqb x lineFeed) (linesOf xs)
     by-byte false (l ∷ ls) = (x ∷ l, ls, refl)
 
 -- the lines of a text and more: its whole lines, then those of its unfinished line and more
-pub lines-split : (s t : List ℕ) → linesOf (s ++ t) ≡ wholeLines s ++ linesOf (drop (wholeLen s) s ++ t)
+lines-split : (s t : List ℕ) → linesOf (s ++ t) ≡ wholeLines s ++ linesOf (unfinished s ++ t)
 unfolding linesOf wholeLen
 lines-split [] t = refl
 lines-split (x ∷ xs) t = by-whole (wholeLen xs) xs (whole-le xs) (lines-split xs t)
@@ -46,13 +47,81 @@ lines-split (x ∷ xs) t = by-whole (wholeLen xs) xs (whole-le xs) (lines-split 
     by-whole (suc n) [] h e = absurd (omega arith)
     by-whole (suc n) (y ∷ ys) h e = by-line (eqb x lineFeed) _ _ _ (some-line y (take n ys)) e
 
--- the same for a text in two parts
-pub lines-more : (p b t : List ℕ) → wholeLines (p ++ b) ++ linesOf (drop (wholeLen (p ++ b)) (p ++ b) ++ t) ≡ linesOf (p ++ (b ++ t))
-lines-more p b t = sym (lines-split (p ++ b) t) ∙ ap linesOf (append-assoc p b t)
+-- the same with nothing more
+lines-last : (s : List ℕ) → wholeLines s ++ linesOf (unfinished s) ≡ linesOf s
+lines-last s = sym (ap linesOf (sym (append-nil s)) ∙ lines-split s [] ∙ rw append-nil)
+
+-- the whole lines of a text are whole
+whole-whole : (s : List ℕ) → wholeLen (take (wholeLen s) s) ≡ wholeLen s
+unfolding wholeLen
+whole-whole [] = refl
+whole-whole (x ∷ xs) = by-whole (wholeLen xs) (whole-whole xs)
+  where
+    by-byte : (t : Bool) → eqb x lineFeed ≡ t → wholeLen (take (cond t 1 0) (x ∷ xs)) ≡ cond t 1 0
+    by-byte true e = rw e
+    by-byte false e = refl
+
+    by-whole : (n : ℕ) → wholeLen (take n xs) ≡ n → wholeLen (take (wholeWith x n) (x ∷ xs)) ≡ wholeWith x n
+    by-whole zero e = by-byte (eqb x lineFeed) refl
+    by-whole (suc n) e = rw e
+
+-- one more byte of whole lines
+with-more : (x n : ℕ) → eqb x lineFeed ≡ true → wholeWith x n ≡ suc n
+with-more x zero e = rw e
+with-more x (suc n) e = refl
+
+-- the whole lines of a text and more end where those of its unfinished line and more end
+whole-split : (s t : List ℕ) → wholeLen (s ++ t) ≡ wholeLen s + wholeLen (unfinished s ++ t)
+unfolding wholeLen
+whole-split [] t = omega arith
+whole-split (x ∷ xs) t = by-whole (wholeLen xs) (whole-split xs t)
+  where
+    by-byte : (b : Bool) → eqb x lineFeed ≡ b → wholeWith x (wholeLen (xs ++ t)) ≡ cond b 1 0 + wholeLen (drop (cond b 1 0) (x ∷ xs) ++ t)
+    by-byte true e = with-more x (wholeLen (xs ++ t)) e ∙ omega arith
+    by-byte false e = omega arith
+
+    with-some : (n m : ℕ) → wholeWith x (suc n + m) ≡ suc (suc n) + m
+    with-some n m = let e : suc n + m ≡ suc (n + m) = omega arith in rw e (omega arith)
+
+    by-whole : (n : ℕ) → wholeLen (xs ++ t) ≡ n + wholeLen (drop n xs ++ t) → wholeWith x (wholeLen (xs ++ t)) ≡ wholeWith x n + wholeLen (drop (wholeWith x n) (x ∷ xs) ++ t)
+    by-whole zero e = by-byte (eqb x lineFeed) refl
+    by-whole (suc n) e = rw e (with-some n (wholeLen (drop (suc n) xs ++ t)))
+
+module _ (s t : List ℕ) where
+  -- a text as its whole lines and its unfinished line
+  parts : take (wholeLen s) s ++ (unfinished s ++ t) ≡ s ++ t
+  parts = sym (append-assoc (take (wholeLen s) s) (unfinished s) t) ∙ ap (λ (l : List ℕ). l ++ t) (take-append-drop (wholeLen s) s)
+
+  -- cut behind those of the whole lines
+  at-whole : (n : ℕ) → length (take (wholeLen s) s) + n ≡ wholeLen s + n
+  at-whole n = ap (λ (k : ℕ). k + n) (length-take-le (wholeLen s) s (whole-le s))
+
+  -- the whole lines grow by those of the unfinished line and more
+  whole-lines-more : wholeLines (s ++ t) ≡ wholeLines s ++ wholeLines (unfinished s ++ t)
+  whole-lines-more =
+      let w = take (wholeLen s) s in
+      let u = unfinished s ++ t in
+      let n = wholeLen u in
+      let e : wholeLen w ≡ length w = whole-whole s ∙ sym (length-take-le (wholeLen s) s (whole-le s)) in
+      ap (λ (k : ℕ). linesOf (take k (s ++ t))) (whole-split s t ∙ sym (at-whole n))
+      ∙ ap (λ (l : List ℕ). linesOf (take (length w + n) l)) (sym parts)
+      ∙ ap linesOf (take-append-add w u n)
+      ∙ lines-split w (take n u)
+      ∙ rw (e, take-length, drop-length)
+
+  -- and the unfinished line is that of the unfinished line and more
+  unfinished-more : unfinished (s ++ t) ≡ unfinished (unfinished s ++ t)
+  unfinished-more =
+      let w = take (wholeLen s) s in
+      let u = unfinished s ++ t in
+      let n = wholeLen u in
+      ap (λ (k : ℕ). drop k (s ++ t)) (whole-split s t ∙ sym (at-whole n))
+      ∙ ap (drop (length w + n)) (sym parts)
+      ∙ drop-append-add w u n
 
 -- ---- the unfinished line has no line feed
 
-abbrev pub Open : List ℕ → Type 0
+abbrev Open : List ℕ → Type 0
 Open p = wholeLen p ≡ 0
 
 -- a byte that ends no line, before bytes that end none
@@ -64,7 +133,7 @@ open-head x zero h = (by-byte (eqb x lineFeed) h, refl)
     by-byte false e = refl
 open-head x (suc n) h = absurd (omega arith)
 
-pub open-rest : (s : List ℕ) → Open (drop (wholeLen s) s)
+open-rest : (s : List ℕ) → Open (unfinished s)
 unfolding wholeLen
 open-rest [] = refl
 open-rest (x ∷ xs) = by-whole (wholeLen xs) refl (open-rest xs)
@@ -133,7 +202,7 @@ module _ (p t : List ℕ) (o : Open p) where
       by-whole zero e = rw (open-append p t o e, open-append (cut p) t (open-take (lineMost + 1) p o) e)
       by-whole (suc m) e = by-lines t e
 
-  pub kept-cut : keptOf (cut p ++ t) ≡ keptOf (p ++ t)
+  kept-cut : keptOf (cut p ++ t) ≡ keptOf (p ++ t)
   kept-cut = by-whole (wholeLen t) refl
     where
       by-whole : (n : ℕ) → wholeLen t ≡ n → keptOf (cut p ++ t) ≡ keptOf (p ++ t)
@@ -145,18 +214,31 @@ last-cut [] o = refl
 last-cut (x ∷ p) o = rw (lines-open x p o, lines-open x (take lineMost p) (open-take (lineMost + 1) (x ∷ p) o), take-take lineMost lineMost p (omega arith))
 
 -- a cut line counts like the whole
-pub count-cut : (p t : List ℕ) → Open p → length (linesOf (cut p ++ t)) ≡ length (linesOf (p ++ t))
+count-cut : (p t : List ℕ) → Open p → length (linesOf (cut p ++ t)) ≡ length (linesOf (p ++ t))
 count-cut [] t o = refl
 count-cut (x ∷ p) [] o = rw (append-nil, append-nil, lines-open x p o, lines-open x (take lineMost p) (open-take (lineMost + 1) (x ∷ p) o))
 count-cut (x ∷ p) (y ∷ t) o =
     let f = some-line y t in
     rw (lines-onto (x ∷ p) (y ∷ t) o (f .2), lines-onto (cut (x ∷ p)) (y ∷ t) (open-take (lineMost + 1) (x ∷ p) o) (f .2))
 
+-- ---- a text and a block
+
+module _ (s b : List ℕ) where
+  -- what is kept of a text and a block is what is kept of that which was kept and the block
+  pub kept-more : keptOf (keptOf s ++ b) ≡ keptOf (s ++ b)
+  kept-more = kept-cut (unfinished s) b (open-rest s) ∙ ap cut (sym (unfinished-more s b))
+
+  -- so many lines they have
+  pub count-more : length (wholeLines s) + length (linesOf (keptOf s ++ b)) ≡ length (linesOf (s ++ b))
+  count-more =
+      let e = count-cut (unfinished s) b (open-rest s) in
+      rw (lines-split s b, length-append, e)
+
 -- ---- runs
 
 module _ {ℓ} {S : Type ℓ} (step : S → List ℕ → S) where
   -- lines one behind the other
-  pub after-append : (s : S) (a b : List (List ℕ)) → after step s (a ++ b) ≡ after step (after step s a) b
+  after-append : (s : S) (a b : List (List ℕ)) → after step s (a ++ b) ≡ after step (after step s a) b
   unfolding after
   after-append s [] b = refl
   after-append s (l ∷ a) b = after-append (step s l) a b
@@ -171,29 +253,27 @@ module _ {ℓ} {S : Type ℓ} (step : S → List ℕ → S) where
     after-like : (s : S) (a b : List (List ℕ)) → map cut a ≡ map cut b → after step s a ≡ after step s b
     after-like s a b e = sym (after-map s a) ∙ ap (after step s) e ∙ after-map s b
 
-    after-from : (s : S) (p : List ℕ) → Open p → (bs : List (List ℕ)) → afterBlocks step s (cut p) bs ≡ after step s (linesOf (p ++ joined bs))
-    unfolding afterBlocks
-    after-from s p o [] = rw append-nil (after-like s (linesOf (cut p)) (linesOf p) (last-cut p o))
-    after-from s p o (b ∷ bs) =
-        let u = after step s (wholeLines (p ++ b)) in
-        ap (λ (t : S). afterBlocks step t (keptOf (cut p ++ b)) bs) (after-like s (wholeLines (cut p ++ b)) (wholeLines (p ++ b)) (whole-cut p b o))
-        ∙ ap (λ (k : List ℕ). afterBlocks step u k bs) (kept-cut p b o)
-        ∙ after-from u (drop (wholeLen (p ++ b)) (p ++ b)) (open-rest (p ++ b)) bs
-        ∙ sym (after-append s (wholeLines (p ++ b)) (linesOf (drop (wholeLen (p ++ b)) (p ++ b) ++ joined bs)))
-        ∙ ap (after step s) (lines-more p b (joined bs))
+    module _ (o : S) (s : List ℕ) where
+      -- the state after the whole lines of a text, then after a block, is that after both
+      pub after-more : (b : List ℕ) → after step (after step o (wholeLines s)) (wholeLines (keptOf s ++ b)) ≡ after step o (wholeLines (s ++ b))
+      after-more b =
+          after-like (after step o (wholeLines s)) (wholeLines (keptOf s ++ b)) (wholeLines (unfinished s ++ b)) (whole-cut (unfinished s) b (open-rest s))
+          ∙ sym (after-append o (wholeLines s) (wholeLines (unfinished s ++ b)))
+          ∙ ap (after step o) (sym (whole-lines-more s b))
 
-    -- the state after a text's blocks is the state after its lines
-    pub after-blocks : (s : S) (bs : List (List ℕ)) → afterBlocks step s [] bs ≡ after step s (linesOf (joined bs))
-    unfolding wholeLen
-    after-blocks s bs = after-from s [] refl bs
+      -- at the end what was kept is the last line
+      pub after-end : after step (after step o (wholeLines s)) (linesOf (keptOf s)) ≡ after step o (linesOf s)
+      after-end =
+          after-like (after step o (wholeLines s)) (linesOf (keptOf s)) (linesOf (unfinished s)) (last-cut (unfinished s) (open-rest s))
+          ∙ sym (after-append o (wholeLines s) (linesOf (unfinished s)))
+          ∙ ap (after step o) (lines-last s)
 
-  module _ (out : S → List ℕ → List ℕ) where
-    pub outs-append : (s : S) (a b : List (List ℕ)) → outs step out s (a ++ b) ≡ outs step out s a ++ outs step out (after step s a) b
-    unfolding after outs
-    outs-append s [] b = refl
-    outs-append s (l ∷ a) b = rw (outs-append (step s l) a b, append-assoc)
+    module _ (out : S → List ℕ → List ℕ) (enough-out : (s : S) (l : List ℕ) → out s (cut l) ≡ out s l) where
+      outs-append : (s : S) (a b : List (List ℕ)) → outs step out s (a ++ b) ≡ outs step out s a ++ outs step out (after step s a) b
+      unfolding after outs
+      outs-append s [] b = refl
+      outs-append s (l ∷ a) b = rw (outs-append (step s l) a b, append-assoc)
 
-    module _ (enough : (s : S) (l : List ℕ) → step s (cut l) ≡ step s l) (enough-out : (s : S) (l : List ℕ) → out s (cut l) ≡ out s l) where
       outs-map : (s : S) (ls : List (List ℕ)) → outs step out s (map cut ls) ≡ outs step out s ls
       unfolding outs
       outs-map s [] = refl
@@ -202,25 +282,19 @@ module _ {ℓ} {S : Type ℓ} (step : S → List ℕ → S) where
       outs-like : (s : S) (a b : List (List ℕ)) → map cut a ≡ map cut b → outs step out s a ≡ outs step out s b
       outs-like s a b e = sym (outs-map s a) ∙ ap (outs step out s) e ∙ outs-map s b
 
-      outs-from : (s : S) (p : List ℕ) → Open p → (bs : List (List ℕ)) → outsBlocks step out s (cut p) bs ≡ outs step out s (linesOf (p ++ joined bs))
-      unfolding outsBlocks
-      outs-from s p o [] = rw append-nil (outs-like s (linesOf (cut p)) (linesOf p) (last-cut p o))
-      outs-from s p o (b ∷ bs) =
-          let u = after step s (wholeLines (p ++ b)) in
-          let v = outs step out s (wholeLines (p ++ b)) in
-          ap (λ (o : List ℕ). o ++ outsBlocks step out (after step s (wholeLines (cut p ++ b))) (keptOf (cut p ++ b)) bs) (outs-like s (wholeLines (cut p ++ b)) (wholeLines (p ++ b)) (whole-cut p b o))
-          ∙ ap (λ (t : S). v ++ outsBlocks step out t (keptOf (cut p ++ b)) bs) (after-like enough s (wholeLines (cut p ++ b)) (wholeLines (p ++ b)) (whole-cut p b o))
-          ∙ ap (λ (k : List ℕ). v ++ outsBlocks step out u k bs) (kept-cut p b o)
-          ∙ ap (λ (o : List ℕ). v ++ o) (outs-from u (drop (wholeLen (p ++ b)) (p ++ b)) (open-rest (p ++ b)) bs)
-          ∙ sym (outs-append s (wholeLines (p ++ b)) (linesOf (drop (wholeLen (p ++ b)) (p ++ b) ++ joined bs)))
-          ∙ ap (outs step out s) (lines-more p b (joined bs))
+      module _ (o : S) (s : List ℕ) where
+        -- the same of what is put out
+        pub outs-more : (b : List ℕ)
+            → outs step out o (wholeLines s) ++ outs step out (after step o (wholeLines s)) (wholeLines (keptOf s ++ b)) ≡ outs step out o (wholeLines (s ++ b))
+        outs-more b =
+            ap (λ (l : List ℕ). outs step out o (wholeLines s) ++ l)
+            (outs-like (after step o (wholeLines s)) (wholeLines (keptOf s ++ b)) (wholeLines (unfinished s ++ b)) (whole-cut (unfinished s) b (open-rest s)))
+            ∙ sym (outs-append o (wholeLines s) (wholeLines (unfinished s ++ b)))
+            ∙ ap (outs step out o) (sym (whole-lines-more s b))
 
-      -- what a text's blocks put out is what its lines put out
-      pub outs-blocks : (s : S) (bs : List (List ℕ)) → outsBlocks step out s [] bs ≡ outs step out s (linesOf (joined bs))
-      unfolding wholeLen
-      outs-blocks s bs = outs-from s [] refl bs
-
--- the same for what each line puts out by its number
-pub numbered-blocks : (f : ℕ → List ℕ → List ℕ) → ((n : ℕ) (l : List ℕ) → f n (cut l) ≡ f n l)
-    → (first : ℕ) (bs : List (List ℕ)) → outsBlocks (λ n l. n + 1) f first [] bs ≡ outs (λ n l. n + 1) f first (linesOf (joined bs))
-numbered-blocks f enough first bs = outs-blocks (λ n l. n + 1) f (λ n l. refl) enough first bs
+        pub outs-end : outs step out o (wholeLines s) ++ outs step out (after step o (wholeLines s)) (linesOf (keptOf s)) ≡ outs step out o (linesOf s)
+        outs-end =
+            ap (λ (l : List ℕ). outs step out o (wholeLines s) ++ l)
+            (outs-like (after step o (wholeLines s)) (linesOf (keptOf s)) (linesOf (unfinished s)) (last-cut (unfinished s) (open-rest s)))
+            ∙ sym (outs-append o (wholeLines s) (linesOf (unfinished s)))
+            ∙ ap (outs step out o) (lines-last s)

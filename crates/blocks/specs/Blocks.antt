@@ -28,6 +28,10 @@ wholeLen (x ∷ xs) = wholeWith x (wholeLen xs)
 abbrev pub wholeLines : List ℕ → List (List ℕ)
 wholeLines s = linesOf (take (wholeLen s) s)
 
--- what is kept of its unfinished line
+-- its unfinished line, of no byte where the last is whole
+abbrev pub unfinished : List ℕ → List ℕ
+unfinished s = drop (wholeLen s) s
+
+-- what is kept of that
 abbrev pub keptOf : List ℕ → List ℕ
-keptOf s = cut (drop (wholeLen s) s)
+keptOf s = cut (unfinished s)

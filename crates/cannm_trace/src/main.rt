@@ -15,10 +15,10 @@ ghost use Rattle.trace.specs.Trace.{blockRoom};
 // ---- sizes
 
 // What is read at once, in many blocks, since a read takes far longer than a block.
-const INPUT: usize = 65536;
+const INPUT: usize = 131072;
 
 // What is printed before it is written: more than a read often prints.
-const OUTPUT: usize = 262144;
+const OUTPUT: usize = 524288;
 
 // ---- writing
 

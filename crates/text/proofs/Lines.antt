@@ -1,7 +1,7 @@
 -- Laws of the lines of a text, for every place in it. Assumes nothing.
 use mathlib.Core.Path.{_≡_, refl, ap}
 use mathlib.Core.Bool.{Bool, true, false, cond}
-use mathlib.Core.List.{List, [], _∷_}
+use mathlib.Core.List.{List, [], _∷_, _++_}
 use Prim.Native.Nat.{ℕ, zero, suc, _+_, _-_, _≤_, _<_}
 use native.Mathlib.Nat.{add-zero}
 use native.Mathlib.Numerals.{add-one}
@@ -81,6 +81,19 @@ count-le (x ∷ xs) = by-byte (eqb x lineFeed) (linesOf xs) (count-le xs)
     by-byte true ls h = omega arith
     by-byte false [] h = omega arith
     by-byte false (l ∷ ls) h = omega arith
+
+-- a longer text has no fewer lines
+pub lines-grow : (s t : List ℕ) → length (linesOf s) ≤ length (linesOf (s ++ t))
+unfolding linesOf
+lines-grow [] t = omega arith
+lines-grow (x ∷ xs) t = by-byte (eqb x lineFeed) (linesOf xs) (linesOf (xs ++ t)) (lines-grow xs t)
+  where
+    by-byte : (b : Bool) (ls ms : List (List ℕ)) → length ls ≤ length ms → length (cond b ([] ∷ ls) (before x ls)) ≤ length (cond b ([] ∷ ms) (before x ms))
+    by-byte true ls ms h = omega arith
+    by-byte false [] [] h = omega arith
+    by-byte false [] (m ∷ ms) h = omega arith
+    by-byte false (l ∷ ls) [] h = absurd (omega arith)
+    by-byte false (l ∷ ls) (m ∷ ms) h = omega arith
 
 -- ---- what a span says
 

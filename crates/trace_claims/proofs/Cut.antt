@@ -32,11 +32,11 @@ same-by f g {s} {t} a = by-flag (t .readable) refl
 
 first-cut : (run : Run) (l : List ℕ) → firstLine run (cut l) ≡ firstLine run l
 unfolding firstLine
-first-cut run l = same-by (λ (c : Config). outcome (holding Second (counted (run .next)) c) []) (broken run) (read-config-cut l)
+first-cut run l = same-by (λ (c : Config). outcome (holding Second (counted (run .lines)) c) []) (broken run) (read-config-cut l)
 
 partial-cut : (run : Run) (l : List ℕ) → partialLine run (cut l) ≡ partialLine run l
 unfolding partialLine
-partial-cut run l = same-by (λ (c : Config). begun c (counted (run .next))) (broken run) (read-partial-cut (run .channel .own .config) l)
+partial-cut run l = same-by (λ (c : Config). begun c (counted (run .lines))) (broken run) (read-partial-cut (run .channel .own .config) l)
 
 later-cut : (run : Run) (l : List ℕ) → laterLine run (cut l) ≡ laterLine run l
 unfolding laterLine
@@ -48,7 +48,7 @@ following-cut run l = rw (later-cut run l)
 
 second-cut : (run : Run) (l : List ℕ) → secondLine run (cut l) ≡ secondLine run l
 unfolding secondLine
-second-cut run l = rw (is-partial-cut l, partial-cut run l, following-cut (begun (run .channel .own .config) (run .next) .run) l)
+second-cut run l = rw (is-partial-cut l, partial-cut run l, following-cut (begun (run .channel .own .config) (run .lines) .run) l)
 
 pub line-cut : EveryLineIsCut
 unfolding lineIn

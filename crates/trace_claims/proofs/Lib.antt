@@ -1,3 +1,6 @@
+mod AtEnd
+mod Blocks
+mod Counted
 mod Cut
 mod Reached
 pub mod Theorem

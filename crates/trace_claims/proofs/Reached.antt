@@ -27,9 +27,9 @@ use Rattle.runs.specs.declared.Phase.the-variants.{Second, Running, Ended}
 use Rattle.runs.specs.declared.Run.{Run}
 use Rattle.runs.specs.Runs.{counted, outcome, passed, runOf}
 use Rattle.replay.specs.Replay.{called, doing, laterLine, readingOf, repliedWith, unread}
-use Rattle.config_lines.specs.ConfigLines.{begun, broken, firstLine, firstNumber, holding, judgedPhase, partialLine}
+use Rattle.config_lines.specs.ConfigLines.{begun, broken, firstLine, holding, judgedPhase, partialLine}
 use Rattle.trace_line.specs.TraceLine.{following, lineIn, secondLine, stepOf}
-use Rattle.trace.specs.Trace.{start}
+use Rattle.trace.specs.Trace.{firstRun}
 use Rattle.trace_claims.specs.Claims.{callsIn, callsOf, configIn, linesBehind}
 
 -- ---- a run that has ended stays so
@@ -48,7 +48,7 @@ not-running e r = let z : _≡_ {A = ℕ} 0 1 = cc in omega arith
 
 -- ---- lines behind the configuration
 
-later-phase : (run : Run) (l : List ℕ) → laterLine run l .run .phase ≡ Running
+pub later-phase : (run : Run) (l : List ℕ) → laterLine run l .run .phase ≡ Running
 unfolding laterLine unread called repliedWith passed
 later-phase run l = by-asked (readingOf l .asked) (readingOf l .bytes)
   where
@@ -157,35 +157,35 @@ second-from c n m ls h = by-name (isPartial m) refl
     by-name true e = let s = partial-second (holding Second n c) m e in rw s (partial-from c n m ls (rw s at h))
     by-name false e = let s = plain-second c n m ls e in rw s (begun-from c n (m ∷ ls) (rw s at h))
 
-held-step : (n : ℕ) (c : Config) (m : List ℕ) → stepOf (holding Second n c) m ≡ secondLine (holding Second n c) m .run
+pub held-step : (n : ℕ) (c : Config) (m : List ℕ) → stepOf (holding Second n c) m ≡ secondLine (holding Second n c) m .run
 unfolding lineIn holding
 held-step n c m = refl
 
 -- ---- line 1
 
-first-run : (l : List ℕ)
-    → stepOf start l ≡ cond (readConfig l .readable) (holding Second (counted firstNumber) (readConfig l .config)) (passed start Ended)
-unfolding lineIn firstLine broken start holding
+pub first-run : (l : List ℕ)
+    → stepOf firstRun l ≡ cond (readConfig l .readable) (holding Second (counted 0) (readConfig l .config)) (passed firstRun Ended)
+unfolding lineIn firstLine broken firstRun holding
 first-run l = by-read (readConfig l .readable)
   where
     by-read : (t : Bool)
-        → cond t (outcome (holding Second (counted firstNumber) (readConfig l .config)) []) (broken start) .run
-        ≡ cond t (holding Second (counted firstNumber) (readConfig l .config)) (passed start Ended)
+        → cond t (outcome (holding Second (counted 0) (readConfig l .config)) []) (broken firstRun) .run
+        ≡ cond t (holding Second (counted 0) (readConfig l .config)) (passed firstRun Ended)
     by-read true = refl
     by-read false = refl
 
 -- behind line 1 alone a run does not go on yet
-pub first-waits : (l : List ℕ) → stepOf start l .phase ≡ Running → ⊥
+pub first-waits : (l : List ℕ) → stepOf firstRun l .phase ≡ Running → ⊥
 unfolding holding passed
 first-waits l h = by-read (readConfig l .readable) (rw (first-run l) at h)
   where
-    by-read : (t : Bool) → cond t (holding Second (counted firstNumber) (readConfig l .config)) (passed start Ended) .phase ≡ Running → ⊥
+    by-read : (t : Bool) → cond t (holding Second (counted 0) (readConfig l .config)) (passed firstRun Ended) .phase ≡ Running → ⊥
     by-read true r = let z : _≡_ {A = ℕ} 0 1 = cc in omega arith
     by-read false r = let z : _≡_ {A = ℕ} 0 1 = cc in omega arith
 
 -- from two lines on
-pub reached-from : (l m : List ℕ) (ls : List (List ℕ)) → after stepOf start (l ∷ m ∷ ls) .phase ≡ Running
-    → From (configIn (l ∷ m ∷ ls)) (callsIn (linesBehind (l ∷ m ∷ ls))) (after stepOf start (l ∷ m ∷ ls))
+pub reached-from : (l m : List ℕ) (ls : List (List ℕ)) → after stepOf firstRun (l ∷ m ∷ ls) .phase ≡ Running
+    → From (configIn (l ∷ m ∷ ls)) (callsIn (linesBehind (l ∷ m ∷ ls))) (after stepOf firstRun (l ∷ m ∷ ls))
 unfolding after configIn linesBehind
 reached-from l m ls h =
     let e = first-run l in
@@ -197,9 +197,9 @@ reached-from l m ls h =
         (after stepOf (stepOf r m) ls)
 
     by-read : (t : Bool)
-        → after stepOf (stepOf (cond t (holding Second (counted firstNumber) (readConfig l .config)) (passed start Ended)) m) ls .phase ≡ Running
-        → Behind (cond t (holding Second (counted firstNumber) (readConfig l .config)) (passed start Ended))
+        → after stepOf (stepOf (cond t (holding Second (counted 0) (readConfig l .config)) (passed firstRun Ended)) m) ls .phase ≡ Running
+        → Behind (cond t (holding Second (counted 0) (readConfig l .config)) (passed firstRun Ended))
     by-read true r =
-        let e = held-step (counted firstNumber) (readConfig l .config) m in
-        rw e (second-from (readConfig l .config) (counted firstNumber) m ls (rw e at r))
-    by-read false r = absurd (not-running (passed-stays start (m ∷ ls)) r)
+        let e = held-step (counted 0) (readConfig l .config) m in
+        rw e (second-from (readConfig l .config) (counted 0) m ls (rw e at r))
+    by-read false r = absurd (not-running (passed-stays firstRun (m ∷ ls)) r)

@@ -1,8 +1,11 @@
 -- What a trace comes to, as a whole: the claims, with no proof. Assumes nothing.
 use mathlib.Core.Path.{_≡_}
-use mathlib.Core.Bool.{cond}
+use mathlib.Core.Bool.{Bool, _&&_, cond}
 use mathlib.Core.List.{List, [], _∷_, _++_}
-use Prim.Native.Nat.{ℕ}
+use Prim.Native.Nat.{ℕ, _≤_}
+use lib.Dec.{leb}
+use lib.ListN.{length}
+use Rattle.answers.specs.declared.Answer.the-variants.{Done, Length}
 use Rattle.command_names.specs.declared.Asked.{Asked}
 use Rattle.command_names.specs.declared.Asked.the-variants.{Unreadable, Call}
 use Rattle.config.specs.declared.Config.{Config}
@@ -12,14 +15,16 @@ use Rattle.config_line.specs.ConfigLine.{readConfig}
 use Rattle.pn_line.specs.PnLine.{isPartial, readPartial}
 use Rattle.sleep.specs.Sleep.{ChannelSleeps, reached}
 use Rattle.blocks.specs.Blocks.{cut, keptOf, wholeLines}
-use Rattle.blocks.specs.Runs.{after, joined}
+use Rattle.blocks.specs.Runs.{after}
+use Rattle.text.specs.Lines.{linesOf}
 use Rattle.dispatch.specs.Calls.{callFor}
 use Rattle.runs.specs.declared.Phase.the-variants.{Running}
 use Rattle.runs.specs.declared.Run.{Run}
+use Rattle.runs.specs.Runs.{Outcome, linesMost, outcome}
 use Rattle.replay.specs.Replay.{readingOf}
 use Rattle.trace_line.specs.TraceLine.{lineOf, stepOf}
-use Rattle.call_lines.specs.CallLines.{linesFrom}
-use Rattle.trace.specs.Trace.{printed, printedFrom, start}
+use Rattle.trace.specs.declared.Feed.{Feed}
+use Rattle.trace.specs.Trace.{blockMost, ended, fed, firstRun, keeping, start, whole}
 use Rattle.config.specs.Ranges.{pduMost}
 
 -- ---- the calls of a trace
@@ -46,18 +51,22 @@ linesBehind [] = []
 linesBehind (l ∷ []) = []
 linesBehind (l ∷ m ∷ ls) = cond (isPartial m) ls (m ∷ ls)
 
--- the channel of a run that goes on
-pub record Reaches (ls : List (List ℕ)) : Type 0 where
+-- a run that goes on behind some lines
+pub record Reaches (ls : List (List ℕ)) (run : Run) : Type 0 where
   -- the configuration passes
   pub passes : firstBroken (configIn ls) ≡ 0
   -- the channel is the one that the calls reach from initialisation
-  pub channel : after stepOf start ls .channel ≡ reached (configIn ls) (callsIn (linesBehind ls))
+  pub channel : run .channel ≡ reached (configIn ls) (callsIn (linesBehind ls))
   -- so what is proved of the tick in which such a channel sleeps holds of it
   pub sleeps : ChannelSleeps (configIn ls)
 
 -- for all lines
 abbrev pub EveryRunReaches : Type 0
-EveryRunReaches = (ls : List (List ℕ)) → after stepOf start ls .phase ≡ Running → Reaches ls
+EveryRunReaches = (ls : List (List ℕ)) → after stepOf firstRun ls .phase ≡ Running → Reaches ls (after stepOf firstRun ls)
+
+-- and for every text at its end
+abbrev pub EveryTextReaches : Type 0
+EveryTextReaches = (s : List ℕ) → whole s .run .phase ≡ Running → Reaches (linesOf s) (whole s .run)
 
 -- ---- a trace in blocks
 
@@ -65,13 +74,53 @@ EveryRunReaches = (ls : List (List ℕ)) → after stepOf start ls .phase ≡ Ru
 abbrev pub EveryLineIsCut : Type 0
 EveryLineIsCut = (run : Run) (l : List ℕ) → lineOf run (cut l) ≡ lineOf run l
 
--- what is printed over blocks, where k was kept before them: the whole lines of what was kept and a block, then the
--- other blocks; at the end what is kept is the last line
-unfoldable pub printedOver : Run → List ℕ → List (List ℕ) → List ℕ
-printedOver run k [] = printedFrom run k
-printedOver run k (b ∷ bs) =
-    linesFrom run (wholeLines (k ++ b)) .text ++ printedOver (linesFrom run (wholeLines (k ++ b)) .run) (keptOf (k ++ b)) bs
+-- does a block fit behind a text? Its length and the lines of both are judged, an unfinished one counted
+abbrev pub fits : List ℕ → List ℕ → Bool
+fits s b = leb (length b) blockMost && leb (length (linesOf (s ++ b))) linesMost
 
--- however a trace is cut into blocks, it prints the same
-abbrev pub EveryCutPrints : Type 0
-EveryCutPrints = (bs : List (List ℕ)) → printedOver start [] bs ≡ printed (joined bs)
+-- the text of the blocks that fit, each behind those before it, where s came before them all
+unfoldable pub takenBehind : List ℕ → List (List ℕ) → List ℕ
+takenBehind s [] = s
+takenBehind s (b ∷ bs) = takenBehind (cond (fits s b) (s ++ b) s) bs
+
+abbrev pub takenText : List (List ℕ) → List ℕ
+takenText bs = takenBehind [] bs
+
+-- what stands between two blocks, where blocks came before
+unfoldable pub behind : Feed → List (List ℕ) → Feed
+behind f [] = f
+behind f (b ∷ bs) = behind (fed f b .feed) bs
+
+-- what blocks and the end of the input come to
+unfoldable pub overBlocks : Feed → List (List ℕ) → Outcome
+overBlocks f [] = ended f
+overBlocks f (b ∷ bs) = outcome (overBlocks (fed f b .feed) bs .run) (fed f b .text ++ overBlocks (fed f b .feed) bs .text)
+
+-- between two blocks there is what the text so far comes to: the run after its whole lines, and what is kept of the unfinished
+-- one. So neither the cuts nor the blocks that were refused can be told from it
+abbrev pub EveryFeedIsOfItsText : Type 0
+EveryFeedIsOfItsText =
+    (bs : List (List ℕ)) → behind start bs ≡ keeping (after stepOf firstRun (wholeLines (takenText bs))) (keptOf (takenText bs))
+
+-- a block is taken exactly if it fits behind the text so far
+abbrev pub EveryBlockIsJudged : Type 0
+EveryBlockIsJudged = (bs : List (List ℕ)) (b : List ℕ) → fed (behind start bs) b .answer ≡ cond (fits (takenText bs) b) Done Length
+
+-- however a trace is cut into blocks, it comes to what its text comes to as a whole: the run, its channel with it, and what is
+-- printed
+abbrev pub EveryCutIsTheWhole : Type 0
+EveryCutIsTheWhole = (bs : List (List ℕ)) → overBlocks start bs ≡ whole (takenText bs)
+
+-- blocks one behind the other
+abbrev pub joined : List (List ℕ) → List ℕ
+joined [] = []
+joined (b ∷ bs) = b ++ joined bs
+
+-- all have at most the bytes of a block
+abbrev pub AllShort : List (List ℕ) → Type 0
+AllShort [] = Unit {0}
+AllShort (b ∷ bs) = (length b ≤ blockMost) × AllShort bs
+
+-- every text whose lines can be counted is taken in all its blocks, wherever it is cut
+abbrev pub EveryTextIsTaken : Type 0
+EveryTextIsTaken = (bs : List (List ℕ)) → AllShort bs → length (linesOf (joined bs)) ≤ linesMost → takenText bs ≡ joined bs

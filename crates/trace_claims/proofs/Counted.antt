@@ -1,0 +1,71 @@
+-- Every line of a trace is counted, whatever its phase. Assumes nothing.
+use mathlib.Core.Path.{_≡_, refl, _∙_}
+use mathlib.Core.Bool.{Bool, true, false, cond}
+use mathlib.Core.List.{List, [], _∷_}
+use Prim.Native.Nat.{ℕ, _+_, _≤_, _<_}
+use native.Mathlib.Omega.{arith}
+use lib.ListN.{length}
+use borrow.Author.Tests.{lt-ltb}
+use Rattle.command_names.specs.declared.Asked.{Asked}
+use Rattle.command_names.specs.declared.Asked.the-variants.{Unreadable, Call}
+use Rattle.config_line.specs.ConfigLine.{readConfig}
+use Rattle.pn_line.specs.PnLine.{isPartial, readPartial}
+use Rattle.blocks.specs.Runs.{after}
+use Rattle.runs.specs.declared.Phase.{Phase}
+use Rattle.runs.specs.declared.Phase.the-variants.{First, Second, Running, Ended}
+use Rattle.runs.specs.declared.Run.{Run}
+use Rattle.runs.specs.Runs.{Outcome, counted, linesMost, passed}
+use Rattle.replay.specs.Replay.{called, doing, laterLine, readingOf, repliedWith, unread}
+use Rattle.config_lines.specs.ConfigLines.{begun, broken, firstLine, holding, partialLine}
+use Rattle.trace_line.specs.TraceLine.{following, isRunning, lineIn, secondLine, stepOf}
+
+-- of two outcomes that count alike either counts so
+either : {n : ℕ} (t : Bool) (o p : Outcome) → o .run .lines ≡ n → p .run .lines ≡ n → cond t o p .run .lines ≡ n
+either true o p e f = e
+either false o p e f = f
+
+later-lines : (run : Run) (l : List ℕ) → laterLine run l .run .lines ≡ counted (run .lines)
+unfolding laterLine unread called repliedWith passed
+later-lines run l = by-asked (readingOf l .asked) (readingOf l .bytes)
+  where
+    by-asked : (a : Asked) (bytes : List ℕ) → doing run a bytes .run .lines ≡ counted (run .lines)
+    by-asked Unreadable bytes = refl
+    by-asked (Call k) bytes = refl
+
+first-lines : (run : Run) (l : List ℕ) → firstLine run l .run .lines ≡ counted (run .lines)
+unfolding firstLine holding broken passed
+first-lines run l = either (readConfig l .readable) _ _ refl refl
+
+partial-lines : (run : Run) (l : List ℕ) → partialLine run l .run .lines ≡ counted (run .lines)
+unfolding partialLine begun broken passed
+partial-lines run l = either (readPartial (run .channel .own .config) l .readable) _ _ refl refl
+
+following-lines : (run : Run) (l : List ℕ) → following run l .run .lines ≡ counted (run .lines)
+unfolding following passed
+following-lines run l = either (isRunning (run .phase)) _ _ (later-lines run l) refl
+
+second-lines : (run : Run) (l : List ℕ) → secondLine run l .run .lines ≡ counted (run .lines)
+unfolding secondLine begun
+second-lines run l = either (isPartial l) _ _ (partial-lines run l) (following-lines (begun (run .channel .own .config) (run .lines) .run) l)
+
+step-lines : (run : Run) (l : List ℕ) → stepOf run l .lines ≡ counted (run .lines)
+unfolding lineIn passed
+step-lines run l = by-phase (run .phase)
+  where
+    by-phase : (p : Phase) → lineIn p run l .run .lines ≡ counted (run .lines)
+    by-phase First = first-lines run l
+    by-phase Second = second-lines run l
+    by-phase Running = later-lines run l
+    by-phase Ended = refl
+
+counted-is : (n : ℕ) → n < linesMost → counted n ≡ n + 1
+unfolding counted
+counted-is n h = rw (lt-ltb n linesMost h)
+
+-- so many lines more, as long as they can be counted
+pub after-lines : (run : Run) (ls : List (List ℕ)) → run .lines + length ls ≤ linesMost → after stepOf run ls .lines ≡ run .lines + length ls
+unfolding after
+after-lines run [] h = omega arith
+after-lines run (l ∷ ls) h =
+    let e : stepOf run l .lines ≡ run .lines + 1 = step-lines run l ∙ counted-is (run .lines) (omega arith) in
+    after-lines (stepOf run l) ls (omega (arith, e)) ∙ omega (arith, e)
