@@ -5,8 +5,6 @@
 // (tests/vectors). No contract can say which bytes a file has.
 use libc::STDOUT_FILENO;
 use text::Span;
-use trace::BUFFER;
-use trace::OUTPUT;
 ghost use mathlib.Core.Path.{_≡_};
 ghost use mathlib.Core.Bool.{true};
 ghost use mathlib.Core.List.{_++_};
@@ -17,12 +15,15 @@ ghost use Rattle.trace.specs.Trace.{printed};
 
 // ---- sizes: what is longer counts as a difference
 
-// The most bytes of the list, of a stored output, and of the name of a file. A trace has room in a buffer of `trace`.
+// The most bytes of the list, of a stored trace or output, and of the name of a file.
 const NAMES_MOST: usize = 16384;
 
 const FILE_MOST: usize = 2048;
 
 const PATH_MOST: usize = 128;
+
+// What a trace can print, since a line has a byte at least, and the end of the input behind its lines.
+const OUTPUT: usize = trace_line::ROOM * (FILE_MOST + 1);
 
 // ---- files
 
@@ -85,17 +86,18 @@ fn read_named(name: &[u8], ending: &[u8], buf: &mut [u8]) -> Got {
 // ---- traces
 
 // Is the stored output what the trace in the first n bytes of the buffer prints?
-fn passes(text: &[u8; BUFFER], n: usize, stored: &[u8], out: &mut [u8; OUTPUT]) -> bool
+fn passes(text: &[u8; FILE_MOST], n: usize, stored: &[u8], out: &mut [u8; OUTPUT]) -> bool
     ensures { λ r. ⌜ (r ≡ true → printed (take n (now (text .entry))) ≡ now (stored .entry)) × (printed (take n (now (text .entry))) ≡ now (stored .entry) → r ≡ true) ⌝ }
 {
-    let end = trace::end(trace::start(), text, n, out);
-    check::same(slices::part(out, 0, end), stored)
+    let start = trace::start();
+    let s = trace::whole_from(start.run, slices::part(text, 0, n), out, 0);
+    check::same(slices::part(out, 0, s.at), stored)
 }
 
 // Does the trace of a name print what is stored?
 fn agrees(
     name: &[u8],
-    text: &mut [u8; BUFFER],
+    text: &mut [u8; FILE_MOST],
     stored: &mut [u8; FILE_MOST],
     out: &mut [u8; OUTPUT],
 ) -> bool {
@@ -119,7 +121,7 @@ fn tell(name: &[u8]) {
 // 1 for a trace that prints what is stored; 0, and its name is printed, for one that differs.
 fn judged(
     name: &[u8],
-    text: &mut [u8; BUFFER],
+    text: &mut [u8; FILE_MOST],
     stored: &mut [u8; FILE_MOST],
     out: &mut [u8; OUTPUT],
 ) -> u64
@@ -135,7 +137,7 @@ fn judged(
 // How many traces of a list print what is stored.
 fn count(
     names: &[u8],
-    text: &mut [u8; BUFFER],
+    text: &mut [u8; FILE_MOST],
     stored: &mut [u8; FILE_MOST],
     out: &mut [u8; OUTPUT],
 ) -> u64 {
@@ -156,7 +158,7 @@ fn count(
 
 fn run(
     names: &mut [u8; NAMES_MOST],
-    text: &mut [u8; BUFFER],
+    text: &mut [u8; FILE_MOST],
     stored: &mut [u8; FILE_MOST],
     out: &mut [u8; OUTPUT],
 ) {
@@ -173,7 +175,7 @@ fn run(
 
 fn main() {
     let mut names = [0u8; NAMES_MOST];
-    let mut text = [0u8; BUFFER];
+    let mut text = [0u8; FILE_MOST];
     let mut stored = [0u8; FILE_MOST];
     let mut out = [0u8; OUTPUT];
     run(&mut names, &mut text, &mut stored, &mut out);
