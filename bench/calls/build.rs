@@ -1,4 +1,4 @@
-//! Links the archive of the runs that are measured. `CANNM_LIBRARIES` names the folder it stands in, beside the two
+//! Links the archive of the runs that are measured. `CANNM_LIBRARIES` names the folder it stands in, beside those
 //! that `cannm_compare` links.
 
 use std::path::PathBuf;

@@ -7,7 +7,7 @@ use libc::STDIN_FILENO;
 use libc::STDOUT_FILENO;
 use trace::BLOCK_MOST;
 use trace::BLOCK_ROOM;
-use trace::Feed;
+use trace::Trace;
 ghost use Prim.Native.Nat.{_+_, _≤_};
 ghost use lib.ListN.{length};
 ghost use Rattle.trace.specs.Trace.{blockRoom};
@@ -51,14 +51,14 @@ fn with_room(out: &[u8], at: usize) -> Place
 
 // The trace between two blocks, and whether there is to be another.
 struct State {
-    feed: Feed,
+    trace: Trace,
     more: bool,
 }
 
 // What was read, block by block, and all that it prints is written. No input is so long that a block is refused; should one
 // be, nothing more is printed: what the lines behind it would have said is not known.
-fn blocks(feed: Feed, text: &[u8], out: &mut [u8; OUTPUT]) -> State {
-    let mut now = feed;
+fn blocks(trace: Trace, text: &[u8], out: &mut [u8; OUTPUT]) -> State {
+    let mut now = trace;
     let mut ok = true;
     let mut put: usize = 0;
     let mut at: usize = 0;
@@ -66,7 +66,7 @@ fn blocks(feed: Feed, text: &[u8], out: &mut [u8; OUTPUT]) -> State {
         let p = with_room(out, put);
         let r = trace::block_at(now, slices::part(text, at, BLOCK_MOST), out, p.at);
         let answer = r.answer;
-        now = r.feed;
+        now = r.trace;
         put = r.at;
         ok = p.ok & refusals::is_done(answer);
         if !ok {
@@ -75,14 +75,14 @@ fn blocks(feed: Feed, text: &[u8], out: &mut [u8; OUTPUT]) -> State {
         at += BLOCK_MOST;
     }
     State {
-        feed: now,
+        trace: now,
         more: ok & written(out, put),
     }
 }
 
 // The end of the input.
-fn end(feed: Feed, out: &mut [u8; OUTPUT]) {
-    let r = trace::end_at(feed, out, 0);
+fn end(trace: Trace, out: &mut [u8; OUTPUT]) {
+    let r = trace::end_at(trace, out, 0);
     written(out, r.at);
 }
 
@@ -90,34 +90,34 @@ fn end(feed: Feed, out: &mut [u8; OUTPUT]) {
 
 // One read, and what it brings. After a write that fails, nothing more is read. After a read that fails, nothing more is
 // printed: what the unfinished line would have said is not known.
-fn turn(feed: Feed, buf: &mut [u8; INPUT], out: &mut [u8; OUTPUT]) -> State {
+fn turn(trace: Trace, buf: &mut [u8; INPUT], out: &mut [u8; OUTPUT]) -> State {
     let got = libc::read(STDIN_FILENO, buf);
     if got < 0 {
         return State {
-            feed: feed,
+            trace: trace,
             more: false,
         };
     }
     if got == 0 {
-        end(feed, out);
+        end(trace, out);
         return State {
-            feed: feed,
+            trace: trace,
             more: false,
         };
     }
     let n = io::count(got, buf);
-    blocks(feed, slices::part(buf, 0, n), out)
+    blocks(trace, slices::part(buf, 0, n), out)
 }
 
 // The turns are counted only so that the loop is seen to end: there are more than any input has bytes.
 fn run_all(buf: &mut [u8; INPUT], out: &mut [u8; OUTPUT]) {
     let mut st = State {
-        feed: trace::start(),
+        trace: trace::start(),
         more: true,
     };
     let mut turns = 18446744073709551615u64;
     while 0 < turns {
-        st = turn(st.feed, buf, out);
+        st = turn(st.trace, buf, out);
         if !st.more {
             break;
         }

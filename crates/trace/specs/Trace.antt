@@ -18,8 +18,8 @@ use Rattle.runs.specs.Runs.{Outcome, linesMost}
 use Rattle.config_lines.specs.ConfigLines.{holding}
 use Rattle.trace_line.specs.TraceLine.{andThen, ending, room}
 use Rattle.call_lines.specs.CallLines.{linesFrom}
-use Rattle.trace.specs.declared.Fed.{Fed}
-use Rattle.trace.specs.declared.Feed.{Feed}
+use Rattle.trace.specs.declared.BlockReply.{BlockReply}
+use Rattle.trace.specs.declared.Trace.{Trace}
 
 -- ---- a whole text
 
@@ -46,15 +46,15 @@ abbrev pub keptMost : ℕ
 keptMost = lineMost + 1
 
 -- a run with what is kept of an unfinished line; zeros stand behind that
-unfoldable pub keeping : Run → List ℕ → Feed
+unfoldable pub keeping : Run → List ℕ → Trace
 keeping run k = record { run = run; line = sets (replicate keptMost 0) 0 k; kept = length k }
 
 -- what is kept
-abbrev pub keptIn : Feed → List ℕ
-keptIn f = take (f .kept) (f .line)
+abbrev pub keptIn : Trace → List ℕ
+keptIn t = take (t .kept) (t .line)
 
 -- before the first block
-unfoldable pub start : Feed
+unfoldable pub start : Trace
 start = keeping firstRun []
 
 -- ---- a block
@@ -70,35 +70,35 @@ blockRoom = room * (keptMost + blockMost)
 -- the answer, what stands between this block and the next, and the text that is printed
 pub record BlockOutcome : Type 0 where
   pub answer : Answer
-  pub feed : Feed
+  pub trace : Trace
   pub text : List ℕ
 
 -- a block is taken exactly if it is not too long, and the lines with it, an unfinished one counted, are not too many
-unfoldable pub isTaken : Feed → List ℕ → Bool
-isTaken f b = leb (length b) blockMost && leb (f .run .lines + length (linesOf (keptIn f ++ b))) linesMost
+unfoldable pub isTaken : Trace → List ℕ → Bool
+isTaken t b = leb (length b) blockMost && leb (t .run .lines + length (linesOf (keptIn t ++ b))) linesMost
 
 abbrev pub taken : Run → List ℕ → BlockOutcome
-taken run s = record { answer = Done; feed = keeping (linesFrom run (wholeLines s) .run) (keptOf s); text = linesFrom run (wholeLines s) .text }
+taken run s = record { answer = Done; trace = keeping (linesFrom run (wholeLines s) .run) (keptOf s); text = linesFrom run (wholeLines s) .text }
 
-abbrev pub refused : Feed → BlockOutcome
-refused f = record { answer = Length; feed = f; text = [] }
+abbrev pub refused : Trace → BlockOutcome
+refused t = record { answer = Length; trace = t; text = [] }
 
 -- the text of a block is what was kept before it, and the block
-unfoldable pub fed : Feed → List ℕ → BlockOutcome
-fed f b = cond (isTaken f b) (taken (f .run) (keptIn f ++ b)) (refused f)
+unfoldable pub blockOf : Trace → List ℕ → BlockOutcome
+blockOf t b = cond (isTaken t b) (taken (t .run) (keptIn t ++ b)) (refused t)
 
--- a reply has that answer and that feed, and that text stands in the list l from place i on, which makes the list m
-pub record GivesBlock (o : BlockOutcome) (l : List ℕ) (i : ℕ) (m : List ℕ) (r : Fed) : Type 0 where
+-- a reply has that answer and that trace, and that text stands in the list l from place i on, which makes the list m
+pub record GivesBlock (o : BlockOutcome) (l : List ℕ) (i : ℕ) (m : List ℕ) (r : BlockReply) : Type 0 where
   pub answer : r .answer ≡ o .answer
-  pub feed : r .feed ≡ o .feed
+  pub trace : r .trace ≡ o .trace
   pub text : Wrote l i (o .text) m (r .at)
 
 -- what answers a block that is refused, where the text printed so far ends at a place
-abbrev pub refusedAt : Feed → ℕ → Fed
-refusedAt f at = record { answer = Length; feed = f; at = at }
+abbrev pub refusedAt : Trace → ℕ → BlockReply
+refusedAt t at = record { answer = Length; trace = t; at = at }
 
 -- ---- the end of the input
 
 -- what is kept is the last line, if it has a byte
-unfoldable pub ended : Feed → Outcome
-ended f = wholeFrom (f .run) (keptIn f)
+unfoldable pub ended : Trace → Outcome
+ended t = wholeFrom (t .run) (keptIn t)

@@ -21,7 +21,7 @@ ghost use Rattle.text.specs.Lines.{linesOf};
 ghost use Rattle.runs.specs.Runs.{Gives, linesMost};
 ghost use Rattle.trace_line.specs.TraceLine.{room};
 ghost use Rattle.call_lines.specs.CallLines.{linesFrom};
-ghost use Rattle.trace.specs.Trace.{GivesBlock, blockRoom, ended, fed, firstRun, keeping, refusedAt, start, taken, wholeFrom};
+ghost use Rattle.trace.specs.Trace.{GivesBlock, blockOf, blockRoom, ended, firstRun, keeping, refusedAt, start, taken, wholeFrom};
 
 // ---- the lines of a text
 
@@ -68,19 +68,19 @@ pub fn whole_from(run: Run, text: &[u8], out: &mut [u8], at: usize) -> Step
 const KEPT_MOST: usize = LINE_MOST + 1;
 
 // A trace between two blocks: the run up to the last whole line, and how many bytes are kept of the unfinished one.
-pub struct Feed {
+pub struct Trace {
     pub run: Run,
     pub line: [u8; KEPT_MOST],
     pub kept: usize,
 }
 
 // A run with what is kept of an unfinished line.
-fn keeping(run: Run, bytes: &[u8]) -> Feed
+fn keeping(run: Run, bytes: &[u8]) -> Trace
     ensures { λ r. ⌜ r ≡ keeping run (now (bytes .entry)) ⌝ }
 {
     let mut line = [0u8; KEPT_MOST];
     slices::copy(bytes, &mut line);
-    Feed {
+    Trace {
         run: run,
         line: line,
         kept: bytes.len(),
@@ -107,9 +107,9 @@ const TEXT_MOST: usize = KEPT_MOST + BLOCK_MOST;
 pub const BLOCK_ROOM: usize = trace_line::ROOM * TEXT_MOST;
 
 // The answer to a block, the trace behind it, and the place behind what is printed so far.
-pub struct Fed {
+pub struct BlockReply {
     pub answer: Answer,
-    pub feed: Feed,
+    pub trace: Trace,
     pub at: usize,
 }
 
@@ -137,62 +137,62 @@ fn lines_fit(lines: u64, text: &[u8]) -> bool
 
 // A block that is taken, by its text: its whole lines are run and printed, and what is needed of the unfinished line is kept.
 // There must be room for what each line prints.
-fn taken(run: Run, text: &[u8], out: &mut [u8], at: usize) -> Fed
+fn taken(run: Run, text: &[u8], out: &mut [u8], at: usize) -> BlockReply
     requires { ⌜ at + room * length (now text) ≤ length (now out) ⌝ }
     ensures { λ r. ⌜ GivesBlock (taken run (now (text .entry))) (now (out .entry)) at (now (out .exit)) r ⌝ }
 {
     let end = blocks::whole_len(text);
     let s = lines(run, slices::part(text, 0, end), out, at);
-    let feed = keeping(s.run, slices::part(text, end, KEPT_MOST));
-    Fed {
+    let trace = keeping(s.run, slices::part(text, end, KEPT_MOST));
+    BlockReply {
         answer: Answer::Done,
-        feed: feed,
+        trace: trace,
         at: s.at,
     }
 }
 
 // A block that is refused leaves all as it was.
-fn refused(feed: Feed, at: usize) -> Fed
-    ensures { λ r. ⌜ r ≡ refusedAt feed at ⌝ }
+fn refused(trace: Trace, at: usize) -> BlockReply
+    ensures { λ r. ⌜ r ≡ refusedAt trace at ⌝ }
 {
-    Fed {
+    BlockReply {
         answer: Answer::Length,
-        feed: feed,
+        trace: trace,
         at: at,
     }
 }
 
 // A block, printed from a place of the buffer on. There must be room for what a block can print.
-pub fn block_at(feed: Feed, block: &[u8], out: &mut [u8], at: usize) -> Fed
+pub fn block_at(trace: Trace, block: &[u8], out: &mut [u8], at: usize) -> BlockReply
     requires { ⌜ at + blockRoom ≤ length (now out) ⌝ }
-    ensures { λ r. ⌜ GivesBlock (fed feed (now (block .entry))) (now (out .entry)) at (now (out .exit)) r ⌝ }
+    ensures { λ r. ⌜ GivesBlock (blockOf trace (now (block .entry))) (now (out .entry)) at (now (out .exit)) r ⌝ }
 {
     if BLOCK_MOST < block.len() {
-        return refused(feed, at);
+        return refused(trace, at);
     }
-    let line = feed.line;
+    let line = trace.line;
     let mut buf = [0u8; TEXT_MOST];
-    let n = put_text(&line, feed.kept, block, &mut buf);
+    let n = put_text(&line, trace.kept, block, &mut buf);
     let text = slices::part(&buf, 0, n);
-    if lines_fit(feed.run.lines, text) {
-        return taken(feed.run, text, out, at);
+    if lines_fit(trace.run.lines, text) {
+        return taken(trace.run, text, out, at);
     }
-    refused(feed, at)
+    refused(trace, at)
 }
 
 // The end of the input, printed from a place of the buffer on. There must be room for what a block can print.
-pub fn end_at(feed: Feed, out: &mut [u8], at: usize) -> Step
+pub fn end_at(trace: Trace, out: &mut [u8], at: usize) -> Step
     requires { ⌜ at + blockRoom ≤ length (now out) ⌝ }
-    ensures { λ r. ⌜ Gives (ended feed) (now (out .entry)) at (now (out .exit)) r ⌝ }
+    ensures { λ r. ⌜ Gives (ended trace) (now (out .entry)) at (now (out .exit)) r ⌝ }
 {
-    let line = feed.line;
-    whole_from(feed.run, slices::part(&line, 0, feed.kept), out, at)
+    let line = trace.line;
+    whole_from(trace.run, slices::part(&line, 0, trace.kept), out, at)
 }
 
 // ---- a trace in blocks
 
 // Before the first block.
-pub fn start() -> Feed
+pub fn start() -> Trace
     ensures { λ r. ⌜ r ≡ start ⌝ }
 {
     keeping(first_run(), b"")
@@ -200,15 +200,15 @@ pub fn start() -> Feed
 
 // A block of the text, which may end in a line: its whole lines are run and printed. One of more than 512 bytes, or one that
 // would bring the lines, an unfinished one counted, past the largest number of a line, is refused.
-pub fn block(feed: Feed, block: &[u8], out: &mut [u8; BLOCK_ROOM]) -> Fed
-    ensures { λ r. ⌜ GivesBlock (fed feed (now (block .entry))) (now (out .entry)) 0 (now (out .exit)) r ⌝ }
+pub fn block(trace: Trace, block: &[u8], out: &mut [u8; BLOCK_ROOM]) -> BlockReply
+    ensures { λ r. ⌜ GivesBlock (blockOf trace (now (block .entry))) (now (out .entry)) 0 (now (out .exit)) r ⌝ }
 {
-    block_at(feed, block, out, 0)
+    block_at(trace, block, out, 0)
 }
 
 // The end of the input: the unfinished line is the last, and a configuration that waits for line 2 is judged.
-pub fn end(feed: Feed, out: &mut [u8; BLOCK_ROOM]) -> Step
-    ensures { λ r. ⌜ Gives (ended feed) (now (out .entry)) 0 (now (out .exit)) r ⌝ }
+pub fn end(trace: Trace, out: &mut [u8; BLOCK_ROOM]) -> Step
+    ensures { λ r. ⌜ Gives (ended trace) (now (out .entry)) 0 (now (out .exit)) r ⌝ }
 {
-    end_at(feed, out, 0)
+    end_at(trace, out, 0)
 }

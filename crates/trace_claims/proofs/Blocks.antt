@@ -20,9 +20,9 @@ use Rattle.runs.specs.Runs.{Outcome, linesMost}
 use Rattle.config_lines.specs.ConfigLines.{holding}
 use Rattle.trace_line.specs.TraceLine.{ending, stepOf, textOf}
 use Rattle.call_lines.specs.CallLines.{linesFrom}
-use Rattle.trace.specs.declared.Feed.{Feed}
-use Rattle.trace.specs.Trace.{BlockOutcome, blockMost, ended, fed, firstRun, isTaken, keeping, keptIn, keptMost, refused, start, taken, whole, wholeFrom}
-use Rattle.trace_claims.specs.Claims.{AllShort, EveryBlockIsJudged, EveryCutIsTheWhole, EveryFeedIsOfItsText, EveryTextIsTaken, behind, fits, joined, overBlocks, takenBehind, takenText}
+use Rattle.trace.specs.declared.Trace.{Trace}
+use Rattle.trace.specs.Trace.{BlockOutcome, blockMost, blockOf, ended, firstRun, isTaken, keeping, keptIn, keptMost, refused, start, taken, whole, wholeFrom}
+use Rattle.trace_claims.specs.Claims.{AllShort, EveryBlockIsJudged, EveryCutIsTheWhole, EveryTraceIsOfItsText, EveryTextIsTaken, behind, fits, joined, overBlocks, takenBehind, takenText}
 use Rattle.trace_claims.proofs.Counted.{after-lines}
 use Rattle.trace_claims.proofs.Cut.{line-cut}
 
@@ -42,23 +42,23 @@ runBehind s = after stepOf firstRun (wholeLines s)
 abbrev printedBehind : List ℕ → List ℕ
 printedBehind s = outs stepOf textOf firstRun (wholeLines s)
 
-abbrev feedBehind : List ℕ → Feed
-feedBehind s = keeping (runBehind s) (keptOf s)
+abbrev traceBehind : List ℕ → Trace
+traceBehind s = keeping (runBehind s) (keptOf s)
 
 -- what is kept is found again
 kept-in : (run : Run) (k : List ℕ) → length k ≤ keptMost → keptIn (keeping run k) ≡ k
 unfolding keeping
 kept-in run k h = filled-front (replicate keptMost 0) k (omega (arith, h))
 
-kept-behind : (s : List ℕ) → keptIn (feedBehind s) ≡ keptOf s
+kept-behind : (s : List ℕ) → keptIn (traceBehind s) ≡ keptOf s
 kept-behind s = kept-in (runBehind s) (keptOf s) (kept-short s)
 
-run-in : (s : List ℕ) → feedBehind s .run ≡ runBehind s
+run-in : (s : List ℕ) → traceBehind s .run ≡ runBehind s
 unfolding keeping
 run-in s = refl
 
 -- before the first block
-start-is : start ≡ feedBehind []
+start-is : start ≡ traceBehind []
 unfolding start after wholeLen linesOf
 start-is = refl
 
@@ -76,21 +76,21 @@ lines-behind s h = after-lines firstRun (wholeLines s) (omega (arith, whole-coun
 -- ---- one block
 
 module _ (s b : List ℕ) (h : Countable s) where
-  judged : isTaken (feedBehind s) b ≡ fits s b
+  judged : isTaken (traceBehind s) b ≡ fits s b
   unfolding isTaken
   judged = rw (kept-behind s, run-in s, lines-behind s h, count-more s b)
 
   -- a block that is taken is a block of the text
   abbrev next : BlockOutcome
-  next = record { answer = Done; feed = feedBehind (s ++ b); text = outs stepOf textOf (runBehind s) (wholeLines (keptOf s ++ b)) }
+  next = record { answer = Done; trace = traceBehind (s ++ b); text = outs stepOf textOf (runBehind s) (wholeLines (keptOf s ++ b)) }
 
-  taken-is : taken (runBehind s) (keptIn (feedBehind s) ++ b) ≡ next
+  taken-is : taken (runBehind s) (keptIn (traceBehind s) ++ b) ≡ next
   unfolding linesFrom
   taken-is = rw (kept-behind s, after-more stepOf enough firstRun s b, kept-more s b)
 
-  fed-is : fed (feedBehind s) b ≡ cond (fits s b) next (refused (feedBehind s))
-  unfolding fed keeping
-  fed-is = ap (λ (t : Bool). cond t (taken (runBehind s) (keptIn (feedBehind s) ++ b)) (refused (feedBehind s))) judged ∙ ap (λ (o : BlockOutcome). cond (fits s b) o (refused (feedBehind s))) taken-is
+  block-is : blockOf (traceBehind s) b ≡ cond (fits s b) next (refused (traceBehind s))
+  unfolding blockOf keeping
+  block-is = ap (λ (t : Bool). cond t (taken (runBehind s) (keptIn (traceBehind s) ++ b)) (refused (traceBehind s))) judged ∙ ap (λ (o : BlockOutcome). cond (fits s b) o (refused (traceBehind s))) taken-is
 
   right : (t u : Bool) → t && u ≡ true → u ≡ true
   right true u e = e
@@ -110,56 +110,56 @@ countable-behind s (b ∷ bs) h = by-fit (fits s b) refl (λ i. countable-behind
     by-fit true e f g = f (fits-count s b h e)
     by-fit false e f g = g
 
-behind-is : (s : List ℕ) (bs : List (List ℕ)) → Countable s → behind (feedBehind s) bs ≡ feedBehind (takenBehind s bs)
+behind-is : (s : List ℕ) (bs : List (List ℕ)) → Countable s → behind (traceBehind s) bs ≡ traceBehind (takenBehind s bs)
 unfolding behind takenBehind
 behind-is s [] h = refl
 behind-is s (b ∷ bs) h =
-    ap (λ (o : BlockOutcome). behind (o .feed) bs) (fed-is s b h) ∙ by-fit (fits s b) refl (λ i. behind-is (s ++ b) bs i) (behind-is s bs h)
+    ap (λ (o : BlockOutcome). behind (o .trace) bs) (block-is s b h) ∙ by-fit (fits s b) refl (λ i. behind-is (s ++ b) bs i) (behind-is s bs h)
   where
-    by-fit : (t : Bool) → fits s b ≡ t → (Countable (s ++ b) → behind (feedBehind (s ++ b)) bs ≡ feedBehind (takenBehind (s ++ b) bs))
-        → behind (feedBehind s) bs ≡ feedBehind (takenBehind s bs)
-        → behind (cond t (next s b h) (refused (feedBehind s)) .feed) bs ≡ feedBehind (takenBehind (cond t (s ++ b) s) bs)
+    by-fit : (t : Bool) → fits s b ≡ t → (Countable (s ++ b) → behind (traceBehind (s ++ b)) bs ≡ traceBehind (takenBehind (s ++ b) bs))
+        → behind (traceBehind s) bs ≡ traceBehind (takenBehind s bs)
+        → behind (cond t (next s b h) (refused (traceBehind s)) .trace) bs ≡ traceBehind (takenBehind (cond t (s ++ b) s) bs)
     by-fit true e f g = f (fits-count s b h e)
     by-fit false e f g = g
 
 -- ---- the end of the input
 
-ended-run : (s : List ℕ) → ended (feedBehind s) .run ≡ whole s .run
+ended-run : (s : List ℕ) → ended (traceBehind s) .run ≡ whole s .run
 unfolding ended wholeFrom linesFrom
 ended-run s = rw (kept-behind s, run-in s, after-end stepOf enough firstRun s)
 
-ended-text : (s : List ℕ) → printedBehind s ++ ended (feedBehind s) .text ≡ whole s .text
+ended-text : (s : List ℕ) → printedBehind s ++ ended (traceBehind s) .text ≡ whole s .text
 unfolding ended wholeFrom linesFrom
 ended-text s =
     rw (kept-behind s, run-in s, after-end stepOf enough firstRun s)
     (sym (append-assoc (printedBehind s) (outs stepOf textOf (runBehind s) (linesOf (keptOf s))) (ending (after stepOf firstRun (linesOf s)) .text))
     ∙ ap (λ (l : List ℕ). l ++ ending (after stepOf firstRun (linesOf s)) .text) (outs-end stepOf enough textOf enough-text firstRun s))
 
-over-run : (s : List ℕ) (bs : List (List ℕ)) → Countable s → overBlocks (feedBehind s) bs .run ≡ whole (takenBehind s bs) .run
+over-run : (s : List ℕ) (bs : List (List ℕ)) → Countable s → overBlocks (traceBehind s) bs .run ≡ whole (takenBehind s bs) .run
 unfolding overBlocks takenBehind
 over-run s [] h = ended-run s
 over-run s (b ∷ bs) h =
-    ap (λ (o : BlockOutcome). overBlocks (o .feed) bs .run) (fed-is s b h) ∙ by-fit (fits s b) refl (λ i. over-run (s ++ b) bs i) (over-run s bs h)
+    ap (λ (o : BlockOutcome). overBlocks (o .trace) bs .run) (block-is s b h) ∙ by-fit (fits s b) refl (λ i. over-run (s ++ b) bs i) (over-run s bs h)
   where
-    by-fit : (t : Bool) → fits s b ≡ t → (Countable (s ++ b) → overBlocks (feedBehind (s ++ b)) bs .run ≡ whole (takenBehind (s ++ b) bs) .run)
-        → overBlocks (feedBehind s) bs .run ≡ whole (takenBehind s bs) .run
-        → overBlocks (cond t (next s b h) (refused (feedBehind s)) .feed) bs .run ≡ whole (takenBehind (cond t (s ++ b) s) bs) .run
+    by-fit : (t : Bool) → fits s b ≡ t → (Countable (s ++ b) → overBlocks (traceBehind (s ++ b)) bs .run ≡ whole (takenBehind (s ++ b) bs) .run)
+        → overBlocks (traceBehind s) bs .run ≡ whole (takenBehind s bs) .run
+        → overBlocks (cond t (next s b h) (refused (traceBehind s)) .trace) bs .run ≡ whole (takenBehind (cond t (s ++ b) s) bs) .run
     by-fit true e f g = f (fits-count s b h e)
     by-fit false e f g = g
 
-over-text : (s : List ℕ) (bs : List (List ℕ)) → Countable s → printedBehind s ++ overBlocks (feedBehind s) bs .text ≡ whole (takenBehind s bs) .text
+over-text : (s : List ℕ) (bs : List (List ℕ)) → Countable s → printedBehind s ++ overBlocks (traceBehind s) bs .text ≡ whole (takenBehind s bs) .text
 unfolding overBlocks takenBehind
 over-text s [] h = ended-text s
 over-text s (b ∷ bs) h =
-    ap (λ (o : BlockOutcome). printedBehind s ++ (o .text ++ overBlocks (o .feed) bs .text)) (fed-is s b h)
+    ap (λ (o : BlockOutcome). printedBehind s ++ (o .text ++ overBlocks (o .trace) bs .text)) (block-is s b h)
     ∙ by-fit (fits s b) refl (λ i. over-text (s ++ b) bs i) (over-text s bs h)
   where
     by-fit : (t : Bool) → fits s b ≡ t
-        → (Countable (s ++ b) → printedBehind (s ++ b) ++ overBlocks (feedBehind (s ++ b)) bs .text ≡ whole (takenBehind (s ++ b) bs) .text)
-        → printedBehind s ++ overBlocks (feedBehind s) bs .text ≡ whole (takenBehind s bs) .text
-        → (let o = cond t (next s b h) (refused (feedBehind s)) in printedBehind s ++ (o .text ++ overBlocks (o .feed) bs .text)) ≡ whole (takenBehind (cond t (s ++ b) s) bs) .text
+        → (Countable (s ++ b) → printedBehind (s ++ b) ++ overBlocks (traceBehind (s ++ b)) bs .text ≡ whole (takenBehind (s ++ b) bs) .text)
+        → printedBehind s ++ overBlocks (traceBehind s) bs .text ≡ whole (takenBehind s bs) .text
+        → (let o = cond t (next s b h) (refused (traceBehind s)) in printedBehind s ++ (o .text ++ overBlocks (o .trace) bs .text)) ≡ whole (takenBehind (cond t (s ++ b) s) bs) .text
     by-fit true e f g =
-        let x = overBlocks (feedBehind (s ++ b)) bs .text in
+        let x = overBlocks (traceBehind (s ++ b)) bs .text in
         sym (append-assoc (printedBehind s) (next s b h .text) x)
         ∙ ap (λ (l : List ℕ). l ++ x) (outs-more stepOf enough textOf enough-text firstRun s b)
         ∙ f (fits-count s b h e)
@@ -171,13 +171,13 @@ none : Countable []
 unfolding linesOf
 none = omega arith
 
-pub every-feed-is-of-its-text : EveryFeedIsOfItsText
-every-feed-is-of-its-text bs = ap (λ (f : Feed). behind f bs) start-is ∙ behind-is [] bs none
+pub every-trace-is-of-its-text : EveryTraceIsOfItsText
+every-trace-is-of-its-text bs = ap (λ (f : Trace). behind f bs) start-is ∙ behind-is [] bs none
 
 pub every-block-is-judged : EveryBlockIsJudged
 every-block-is-judged bs b =
-    ap (λ (f : Feed). fed f b .answer) (every-feed-is-of-its-text bs)
-    ∙ ap (λ (o : BlockOutcome). o .answer) (fed-is s b h)
+    ap (λ (f : Trace). blockOf f b .answer) (every-trace-is-of-its-text bs)
+    ∙ ap (λ (o : BlockOutcome). o .answer) (block-is s b h)
     ∙ by-fit (fits s b)
   where
     s : List ℕ
@@ -186,14 +186,14 @@ every-block-is-judged bs b =
     h : Countable s
     h = countable-behind [] bs none
 
-    by-fit : (t : Bool) → cond t (next s b h) (refused (feedBehind s)) .answer ≡ cond t Done Length
+    by-fit : (t : Bool) → cond t (next s b h) (refused (traceBehind s)) .answer ≡ cond t Done Length
     by-fit true = refl
     by-fit false = refl
 
 pub every-cut-is-the-whole : EveryCutIsTheWhole
 unfolding outs linesOf wholeLen
 every-cut-is-the-whole bs =
-    ap (λ (f : Feed). overBlocks f bs) start-is ∙ both (over-run [] bs none) (over-text [] bs none)
+    ap (λ (f : Trace). overBlocks f bs) start-is ∙ both (over-run [] bs none) (over-text [] bs none)
   where
     both : {o p : Outcome} → o .run ≡ p .run → o .text ≡ p .text → o ≡ p
     both e f = λ i. record { run = e i; text = f i }

@@ -1,5 +1,5 @@
 -- The claims of specs/Claims hold. Assumes nothing.
-use mathlib.Core.Path.{_≡_}
+use mathlib.Core.Path.{_≡_, ap, _∙_}
 use mathlib.Core.List.{List, [], _∷_}
 use Prim.Native.Nat.{ℕ}
 use native.Mathlib.Omega.{arith}
@@ -9,8 +9,8 @@ use Rattle.text.specs.Lines.{linesOf}
 use Rattle.runs.specs.declared.Run.{Run}
 use Rattle.config_lines.specs.ConfigLines.{holding}
 use Rattle.call_lines.specs.CallLines.{linesFrom}
-use Rattle.trace.specs.Trace.{firstRun, wholeFrom}
-use Rattle.trace_claims.specs.Claims.{EveryBlockIsJudged, EveryCutIsTheWhole, EveryFeedIsOfItsText, EveryLineIsCut, EveryRunReaches, EveryTextIsTaken, EveryTextReaches, Reaches, callsIn, configIn, linesBehind}
+use Rattle.trace.specs.Trace.{firstRun, whole, wholeFrom}
+use Rattle.trace_claims.specs.Claims.{EveryBlockIsJudged, EveryCutIsTheWhole, EveryLineIsCut, EveryRunReaches, EveryTextInBlocks, EveryTextIsTaken, EveryTextReaches, EveryTraceIsOfItsText, Reaches, callsIn, configIn, linesBehind}
 use Rattle.trace_claims.proofs.AtEnd.{end-reached}
 use Rattle.trace_claims.proofs.Blocks as blocks
 use Rattle.trace_claims.proofs.Cut.{line-cut}
@@ -36,8 +36,8 @@ every-text-reaches s h = reaches (linesOf s) (end-reached (linesOf s) h)
 pub every-line-is-cut : EveryLineIsCut
 every-line-is-cut = line-cut
 
-pub every-feed-is-of-its-text : EveryFeedIsOfItsText
-every-feed-is-of-its-text = blocks.every-feed-is-of-its-text
+pub every-trace-is-of-its-text : EveryTraceIsOfItsText
+every-trace-is-of-its-text = blocks.every-trace-is-of-its-text
 
 pub every-block-is-judged : EveryBlockIsJudged
 every-block-is-judged = blocks.every-block-is-judged
@@ -47,3 +47,6 @@ every-cut-is-the-whole = blocks.every-cut-is-the-whole
 
 pub every-text-is-taken : EveryTextIsTaken
 every-text-is-taken = blocks.every-text-is-taken
+
+pub every-text-in-blocks : EveryTextInBlocks
+every-text-in-blocks bs a h = every-cut-is-the-whole bs ∙ ap whole (every-text-is-taken bs a h)

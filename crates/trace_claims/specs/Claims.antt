@@ -23,8 +23,8 @@ use Rattle.runs.specs.declared.Run.{Run}
 use Rattle.runs.specs.Runs.{Outcome, linesMost, outcome}
 use Rattle.replay.specs.Replay.{readingOf}
 use Rattle.trace_line.specs.TraceLine.{lineOf, stepOf}
-use Rattle.trace.specs.declared.Feed.{Feed}
-use Rattle.trace.specs.Trace.{blockMost, ended, fed, firstRun, keeping, start, whole}
+use Rattle.trace.specs.declared.Trace.{Trace}
+use Rattle.trace.specs.Trace.{blockMost, blockOf, ended, firstRun, keeping, start, whole}
 use Rattle.config.specs.Ranges.{pduMost}
 
 -- ---- the calls of a trace
@@ -87,24 +87,24 @@ abbrev pub takenText : List (List ℕ) → List ℕ
 takenText bs = takenBehind [] bs
 
 -- what stands between two blocks, where blocks came before
-unfoldable pub behind : Feed → List (List ℕ) → Feed
-behind f [] = f
-behind f (b ∷ bs) = behind (fed f b .feed) bs
+unfoldable pub behind : Trace → List (List ℕ) → Trace
+behind t [] = t
+behind t (b ∷ bs) = behind (blockOf t b .trace) bs
 
 -- what blocks and the end of the input come to
-unfoldable pub overBlocks : Feed → List (List ℕ) → Outcome
-overBlocks f [] = ended f
-overBlocks f (b ∷ bs) = outcome (overBlocks (fed f b .feed) bs .run) (fed f b .text ++ overBlocks (fed f b .feed) bs .text)
+unfoldable pub overBlocks : Trace → List (List ℕ) → Outcome
+overBlocks t [] = ended t
+overBlocks t (b ∷ bs) = outcome (overBlocks (blockOf t b .trace) bs .run) (blockOf t b .text ++ overBlocks (blockOf t b .trace) bs .text)
 
 -- between two blocks there is what the text so far comes to: the run after its whole lines, and what is kept of the unfinished
 -- one. So neither the cuts nor the blocks that were refused can be told from it
-abbrev pub EveryFeedIsOfItsText : Type 0
-EveryFeedIsOfItsText =
+abbrev pub EveryTraceIsOfItsText : Type 0
+EveryTraceIsOfItsText =
     (bs : List (List ℕ)) → behind start bs ≡ keeping (after stepOf firstRun (wholeLines (takenText bs))) (keptOf (takenText bs))
 
 -- a block is taken exactly if it fits behind the text so far
 abbrev pub EveryBlockIsJudged : Type 0
-EveryBlockIsJudged = (bs : List (List ℕ)) (b : List ℕ) → fed (behind start bs) b .answer ≡ cond (fits (takenText bs) b) Done Length
+EveryBlockIsJudged = (bs : List (List ℕ)) (b : List ℕ) → blockOf (behind start bs) b .answer ≡ cond (fits (takenText bs) b) Done Length
 
 -- however a trace is cut into blocks, it comes to what its text comes to as a whole: the run, its channel with it, and what is
 -- printed
@@ -124,3 +124,7 @@ AllShort (b ∷ bs) = (length b ≤ blockMost) × AllShort bs
 -- every text whose lines can be counted is taken in all its blocks, wherever it is cut
 abbrev pub EveryTextIsTaken : Type 0
 EveryTextIsTaken = (bs : List (List ℕ)) → AllShort bs → length (linesOf (joined bs)) ≤ linesMost → takenText bs ≡ joined bs
+
+-- so the blocks come to what the text comes to at once
+abbrev pub EveryTextInBlocks : Type 0
+EveryTextInBlocks = (bs : List (List ℕ)) → AllShort bs → length (linesOf (joined bs)) ≤ linesMost → overBlocks start bs ≡ whole (joined bs)

@@ -5,7 +5,7 @@
 // comes to (`trace`).
 use runs::Run;
 use trace::BLOCK_ROOM;
-use trace::Feed;
+use trace::Trace;
 ghost use Prim.Native.Nat.{_≤_};
 
 #[repr(C)]
@@ -25,33 +25,33 @@ pub struct AfterBlock {
 
 // A trace between two blocks, and how many bytes it has printed.
 struct Went {
-    feed: Feed,
+    trace: Trace,
     printed: usize,
 }
 
 // The trace as if so many lines had come before.
-fn counting(feed: Feed, lines: u64) -> Feed {
-    let run = feed.run;
+fn counting(trace: Trace, lines: u64) -> Trace {
+    let run = trace.run;
     let phase = run.phase;
     let channel = run.channel;
-    let line = feed.line;
-    Feed {
+    let line = trace.line;
+    Trace {
         run: Run {
             phase: phase,
             lines: lines,
             channel: channel,
         },
         line: line,
-        kept: feed.kept,
+        kept: trace.kept,
     }
 }
 
 // The trace with its count set before a block, if that is the one.
-fn counting_at(feed: Feed, k: usize, before: u64, lines: u64) -> Feed {
+fn counting_at(trace: Trace, k: usize, before: u64, lines: u64) -> Trace {
     if (k as u64) == before {
-        return counting(feed, lines);
+        return counting(trace, lines);
     }
-    feed
+    trace
 }
 
 // No test prints as much as this.
@@ -76,13 +76,13 @@ fn one(
     out: &mut [u8],
     page: &mut [u8; BLOCK_ROOM],
 ) -> Went {
-    let r = trace::block(w.feed, block, page);
+    let r = trace::block(w.trace, block, page);
     let answer = r.answer;
     slices::put(answers, k, answers::number(answer));
     slices::put_part(out, w.printed, slices::part(page, 0, r.at));
-    let feed = r.feed;
+    let trace = r.trace;
     Went {
-        feed: feed,
+        trace: trace,
         printed: added(w.printed, r.at),
     }
 }
@@ -105,18 +105,18 @@ fn all(
     page: &mut [u8; BLOCK_ROOM],
 ) -> Went {
     let mut w = Went {
-        feed: trace::start(),
+        trace: trace::start(),
         printed: 0,
     };
     let mut from: usize = 0;
     let mut k: usize = 0;
     while k < ends.len() {
         let to = larger(from, ends[k] as usize);
-        let feed = counting_at(w.feed, k, before, lines);
+        let trace = counting_at(w.trace, k, before, lines);
         let block = slices::part(text, from, to - from);
         w = one(
             Went {
-                feed: feed,
+                trace: trace,
                 printed: w.printed,
             },
             block,
@@ -132,8 +132,8 @@ fn all(
 }
 
 // The end of the input: how many bytes are printed with it, and its text behind them.
-fn ended(feed: Feed, printed: usize, out: &mut [u8], page: &mut [u8; BLOCK_ROOM]) -> usize {
-    let s = trace::end(feed, page);
+fn ended(trace: Trace, printed: usize, out: &mut [u8], page: &mut [u8; BLOCK_ROOM]) -> usize {
+    let s = trace::end(trace, page);
     slices::put_part(out, printed, slices::part(page, 0, s.at));
     added(printed, s.at)
 }
@@ -149,12 +149,12 @@ pub extern "C" fn test_trace_in_blocks(
 ) -> InBlocks {
     let mut page = [0u8; BLOCK_ROOM];
     let w = all(text, ends, preset_before, preset, answers, out, &mut page);
-    let feed = w.feed;
-    let printed = ended(feed, w.printed, out, &mut page);
+    let trace = w.trace;
+    let printed = ended(trace, w.printed, out, &mut page);
     InBlocks {
         printed: printed as u64,
-        lines: feed.run.lines,
-        kept: feed.kept as u64,
+        lines: trace.run.lines,
+        kept: trace.kept as u64,
     }
 }
 
@@ -179,13 +179,13 @@ pub extern "C" fn test_trace_block(
         &mut out,
         &mut scratch,
     );
-    let r = trace::block(w.feed, block, page);
+    let r = trace::block(w.trace, block, page);
     let answer = r.answer;
-    let feed = r.feed;
+    let trace = r.trace;
     AfterBlock {
         answer: answers::number(answer) as u64,
         at: r.at as u64,
-        lines: feed.run.lines,
-        kept: feed.kept as u64,
+        lines: trace.run.lines,
+        kept: trace.kept as u64,
     }
 }

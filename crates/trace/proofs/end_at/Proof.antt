@@ -11,7 +11,7 @@ use Rattle.trace.proofs.end_at.Tie as tie
 whole-from-requires : tie.Need-whole-from-requires
 whole-from-requires c κs =
     let s = c .before .before .before .before .before in
-    let n : length (s .args .feed .line) ≡ keptMost = array-length (s .args .feed .line) (s .good .0 .1 .1 .1 .0 .1 .0 .1) in
+    let n : length (s .args .trace .line) ≡ keptMost = array-length (s .args .trace .line) (s .good .0 .1 .1 .1 .0 .1 .0 .1) in
     rw (c .before .part .ensures, length-take) (omega arith)
 
 returns : tie.Need-returns

@@ -11,7 +11,7 @@ returns c =
     let a = b .before .before .before .before in
     let p = a .before .before in
     let s = p .before .before .before .before .args in
-    rw (← p .part .ensures) (put-behind (s .text .now) (p .part .result .now) (s .block .now) (a .copy .ensures) (b .put-part .ensures) refl)
+    put-behind (s .text .now) (p .part .result .now) (s .block .now) (p .part .ensures) (a .copy .ensures) (b .put-part .ensures) refl
 
 pub put-text-spec : {M : Type 1} → statement M
 put-text-spec =

@@ -12,7 +12,7 @@ returns c =
     let p = l .before .before in
     let w = p .before .whole-len .ensures in
     let g = rw (p .part .ensures, w) at (l .lines .ensures) in
-    record { answer = refl; feed = rw (c .keeping .ensures, c .before .part2 .ensures, w, g .run); text = g .text }
+    record { answer = refl; trace = rw (c .keeping .ensures, c .before .part2 .ensures, w, g .run); text = g .text }
 
 pub taken-spec : {M : Type 1} → statement M
 taken-spec =
