@@ -63,7 +63,7 @@ start = keeping firstRun []
 abbrev pub blockMost : ℕ
 blockMost = 512
 
--- room for what a block prints: each of its lines has a byte at least, and so has what was kept
+-- room for what a block prints: of what was kept and the block, each line has a byte at least
 abbrev pub blockRoom : ℕ
 blockRoom = room * (keptMost + blockMost)
 

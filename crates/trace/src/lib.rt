@@ -67,7 +67,8 @@ pub fn whole_from(run: Run, text: &[u8], out: &mut [u8], at: usize) -> Step
 // Room for what is kept of an unfinished line: with one byte more than it may have it is known to be too long.
 const KEPT_MOST: usize = LINE_MOST + 1;
 
-// A trace between two blocks: the run up to the last whole line, and how many bytes are kept of the unfinished one.
+// A trace between two blocks: the run up to the last whole line, and what is carried along of the unfinished one, which are
+// the first `kept` bytes of `line`.
 pub struct Trace {
     pub run: Run,
     pub line: [u8; KEPT_MOST],
@@ -198,8 +199,8 @@ pub fn start() -> Trace
     keeping(first_run(), b"")
 }
 
-// A block of the text, which may end in a line: its whole lines are run and printed. One of more than 512 bytes, or one that
-// would bring the lines, an unfinished one counted, past the largest number of a line, is refused.
+// The next block of the text, which may end inside a line: its whole lines are run and printed. One of more than 512 bytes, or
+// one that would bring the lines, an unfinished one counted, past the largest number of a line, is refused.
 pub fn block(trace: Trace, block: &[u8], out: &mut [u8; BLOCK_ROOM]) -> BlockReply
     ensures { λ r. ⌜ GivesBlock (blockOf trace (now (block .entry))) (now (out .entry)) 0 (now (out .exit)) r ⌝ }
 {
