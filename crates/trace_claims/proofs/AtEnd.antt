@@ -14,11 +14,11 @@ use Rattle.runs.specs.declared.Phase.{Phase}
 use Rattle.runs.specs.declared.Phase.the-variants.{First, Second, Running, Ended}
 use Rattle.runs.specs.declared.Run.{Run}
 use Rattle.runs.specs.Runs.{Outcome, counted, passed}
-use Rattle.replay.specs.Replay.{laterLine}
 use Rattle.config_lines.specs.ConfigLines.{begun, broken, holding, judgedPhase, partialLine}
 use Rattle.trace_line.specs.TraceLine.{ending, endingIn, following, isRunning, lineIn, secondLine, stepOf}
 use Rattle.trace.specs.Trace.{firstRun}
 use Rattle.trace_claims.specs.Claims.{callsIn, configIn, linesBehind}
+use Rattle.trace_claims.proofs.Either.{either}
 use Rattle.trace_claims.proofs.Reached.{From, begun-from, first-run, held-step, later-phase, reached-from}
 
 -- ---- behind two lines the configuration is judged
@@ -44,12 +44,10 @@ unfolding after
 settled-stays run [] e = e
 settled-stays run (l ∷ ls) e = settled-stays (stepOf run l) ls (settled-step run l e)
 
--- of two outcomes that are settled either is
-either : (t : Bool) (o p : Outcome) → settled (o .run .phase) ≡ true → settled (p .run .phase) ≡ true → settled (cond t o p .run .phase) ≡ true
-either true o p e f = e
-either false o p e f = f
+abbrev Settled : Outcome → Type 0
+Settled o = settled (o .run .phase) ≡ true
 
-begun-settled : (c : Config) (n : ℕ) → settled (begun c n .run .phase) ≡ true
+begun-settled : (c : Config) (n : ℕ) → Settled (begun c n)
 unfolding begun
 begun-settled c n = by-answer (isDone (initialised c .answer))
   where
@@ -57,17 +55,17 @@ begun-settled c n = by-answer (isDone (initialised c .answer))
     by-answer true = refl
     by-answer false = refl
 
-partial-settled : (run : Run) (m : List ℕ) → settled (partialLine run m .run .phase) ≡ true
+partial-settled : (run : Run) (m : List ℕ) → Settled (partialLine run m)
 unfolding partialLine broken passed
-partial-settled run m = either (readPartial (run .channel .own .config) m .readable) _ _ (begun-settled _ _) refl
+partial-settled run m = either Settled (readPartial (run .channel .own .config) m .readable) (begun-settled _ _) refl
 
-following-settled : (run : Run) (m : List ℕ) → settled (run .phase) ≡ true → settled (following run m .run .phase) ≡ true
+following-settled : (run : Run) (m : List ℕ) → settled (run .phase) ≡ true → Settled (following run m)
 unfolding following passed
-following-settled run m e = either (isRunning (run .phase)) _ _ (ap settled (later-phase run m)) e
+following-settled run m e = either Settled (isRunning (run .phase)) (ap settled (later-phase run m)) e
 
-second-settled : (run : Run) (m : List ℕ) → settled (secondLine run m .run .phase) ≡ true
+second-settled : (run : Run) (m : List ℕ) → Settled (secondLine run m)
 unfolding secondLine
-second-settled run m = either (isPartial m) _ _ (partial-settled run m) (following-settled _ m (begun-settled _ _))
+second-settled run m = either Settled (isPartial m) (partial-settled run m) (following-settled _ m (begun-settled _ _))
 
 settled-ended : settled (passed firstRun Ended .phase) ≡ true
 unfolding passed

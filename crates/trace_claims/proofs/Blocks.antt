@@ -1,5 +1,5 @@
 -- A trace in blocks: what stands between two of them, which are taken, and what they come to. Assumes nothing.
-use mathlib.Core.Path.{_≡_, refl, sym, ap, _∙_}
+use mathlib.Core.Path.{_≡_, refl, sym, ap, subst, _∙_}
 use mathlib.Core.Bool.{Bool, true, false, false≢true, _&&_, cond}
 use mathlib.Core.List.{List, [], _∷_, _++_, append-assoc, append-nil}
 use Prim.Native.Nat.{ℕ, _+_, _≤_}
@@ -99,28 +99,28 @@ module _ (s b : List ℕ) (h : Countable s) where
   fits-count : fits s b ≡ true → Countable (s ++ b)
   fits-count e = leb-true _ _ (right (leb (length b) blockMost) (leb (length (linesOf (s ++ b))) linesMost) e)
 
+  -- what holds behind a block that fits, and behind one that does not, holds behind a block
+  either-fits : (Holds : BlockOutcome → List ℕ → Type 0) → (Countable (s ++ b) → Holds next (s ++ b)) → Holds (refused (traceBehind s)) s
+      → Holds (blockOf (traceBehind s) b) (cond (fits s b) (s ++ b) s)
+  either-fits Holds f g = subst (λ (o : BlockOutcome). Holds o (cond (fits s b) (s ++ b) s)) (sym block-is) (by-fit (fits s b) refl)
+    where
+      by-fit : (t : Bool) → fits s b ≡ t → Holds (cond t next (refused (traceBehind s))) (cond t (s ++ b) s)
+      by-fit true e = f (fits-count e)
+      by-fit false e = g
+
 -- ---- all blocks
 
 countable-behind : (s : List ℕ) (bs : List (List ℕ)) → Countable s → Countable (takenBehind s bs)
 unfolding takenBehind
 countable-behind s [] h = h
-countable-behind s (b ∷ bs) h = by-fit (fits s b) refl (λ i. countable-behind (s ++ b) bs i) (countable-behind s bs h)
-  where
-    by-fit : (t : Bool) → fits s b ≡ t → (Countable (s ++ b) → Countable (takenBehind (s ++ b) bs)) → Countable (takenBehind s bs) → Countable (takenBehind (cond t (s ++ b) s) bs)
-    by-fit true e f g = f (fits-count s b h e)
-    by-fit false e f g = g
+countable-behind s (b ∷ bs) h =
+    either-fits s b h (λ (o : BlockOutcome) (u : List ℕ). Countable (takenBehind u bs)) (λ i. countable-behind (s ++ b) bs i) (countable-behind s bs h)
 
 behind-is : (s : List ℕ) (bs : List (List ℕ)) → Countable s → behind (traceBehind s) bs ≡ traceBehind (takenBehind s bs)
 unfolding behind takenBehind
 behind-is s [] h = refl
 behind-is s (b ∷ bs) h =
-    ap (λ (o : BlockOutcome). behind (o .trace) bs) (block-is s b h) ∙ by-fit (fits s b) refl (λ i. behind-is (s ++ b) bs i) (behind-is s bs h)
-  where
-    by-fit : (t : Bool) → fits s b ≡ t → (Countable (s ++ b) → behind (traceBehind (s ++ b)) bs ≡ traceBehind (takenBehind (s ++ b) bs))
-        → behind (traceBehind s) bs ≡ traceBehind (takenBehind s bs)
-        → behind (cond t (next s b h) (refused (traceBehind s)) .trace) bs ≡ traceBehind (takenBehind (cond t (s ++ b) s) bs)
-    by-fit true e f g = f (fits-count s b h e)
-    by-fit false e f g = g
+    either-fits s b h (λ (o : BlockOutcome) (u : List ℕ). behind (o .trace) bs ≡ traceBehind (takenBehind u bs)) (λ i. behind-is (s ++ b) bs i) (behind-is s bs h)
 
 -- ---- the end of the input
 
@@ -139,31 +139,21 @@ over-run : (s : List ℕ) (bs : List (List ℕ)) → Countable s → overBlocks 
 unfolding overBlocks takenBehind
 over-run s [] h = ended-run s
 over-run s (b ∷ bs) h =
-    ap (λ (o : BlockOutcome). overBlocks (o .trace) bs .run) (block-is s b h) ∙ by-fit (fits s b) refl (λ i. over-run (s ++ b) bs i) (over-run s bs h)
-  where
-    by-fit : (t : Bool) → fits s b ≡ t → (Countable (s ++ b) → overBlocks (traceBehind (s ++ b)) bs .run ≡ whole (takenBehind (s ++ b) bs) .run)
-        → overBlocks (traceBehind s) bs .run ≡ whole (takenBehind s bs) .run
-        → overBlocks (cond t (next s b h) (refused (traceBehind s)) .trace) bs .run ≡ whole (takenBehind (cond t (s ++ b) s) bs) .run
-    by-fit true e f g = f (fits-count s b h e)
-    by-fit false e f g = g
+    either-fits s b h (λ (o : BlockOutcome) (u : List ℕ). overBlocks (o .trace) bs .run ≡ whole (takenBehind u bs) .run)
+    (λ i. over-run (s ++ b) bs i)
+    (over-run s bs h)
 
 over-text : (s : List ℕ) (bs : List (List ℕ)) → Countable s → printedBehind s ++ overBlocks (traceBehind s) bs .text ≡ whole (takenBehind s bs) .text
 unfolding overBlocks takenBehind
 over-text s [] h = ended-text s
 over-text s (b ∷ bs) h =
-    ap (λ (o : BlockOutcome). printedBehind s ++ (o .text ++ overBlocks (o .trace) bs .text)) (block-is s b h)
-    ∙ by-fit (fits s b) refl (λ i. over-text (s ++ b) bs i) (over-text s bs h)
-  where
-    by-fit : (t : Bool) → fits s b ≡ t
-        → (Countable (s ++ b) → printedBehind (s ++ b) ++ overBlocks (traceBehind (s ++ b)) bs .text ≡ whole (takenBehind (s ++ b) bs) .text)
-        → printedBehind s ++ overBlocks (traceBehind s) bs .text ≡ whole (takenBehind s bs) .text
-        → (let o = cond t (next s b h) (refused (traceBehind s)) in printedBehind s ++ (o .text ++ overBlocks (o .trace) bs .text)) ≡ whole (takenBehind (cond t (s ++ b) s) bs) .text
-    by-fit true e f g =
-        let x = overBlocks (traceBehind (s ++ b)) bs .text in
-        sym (append-assoc (printedBehind s) (next s b h .text) x)
-        ∙ ap (λ (l : List ℕ). l ++ x) (outs-more stepOf enough textOf enough-text firstRun s b)
-        ∙ f (fits-count s b h e)
-    by-fit false e f g = g
+    let x = overBlocks (traceBehind (s ++ b)) bs .text in
+    either-fits s b h
+    (λ (o : BlockOutcome) (u : List ℕ). printedBehind s ++ (o .text ++ overBlocks (o .trace) bs .text) ≡ whole (takenBehind u bs) .text)
+    (λ i.
+    sym (append-assoc (printedBehind s) (next s b h .text) x) ∙ ap (λ (l : List ℕ). l ++ x) (outs-more stepOf enough textOf enough-text firstRun s b)
+    ∙ over-text (s ++ b) bs i)
+    (over-text s bs h)
 
 -- ---- the claims
 

@@ -1,6 +1,5 @@
 -- Every line of a trace is counted, whatever its phase. Assumes nothing.
 use mathlib.Core.Path.{_≡_, refl, _∙_}
-use mathlib.Core.Bool.{Bool, true, false, cond}
 use mathlib.Core.List.{List, [], _∷_}
 use Prim.Native.Nat.{ℕ, _+_, _≤_, _<_}
 use native.Mathlib.Omega.{arith}
@@ -18,41 +17,41 @@ use Rattle.runs.specs.Runs.{Outcome, counted, linesMost, passed}
 use Rattle.replay.specs.Replay.{called, doing, laterLine, readingOf, repliedWith, unread}
 use Rattle.config_lines.specs.ConfigLines.{begun, broken, firstLine, holding, partialLine}
 use Rattle.trace_line.specs.TraceLine.{following, isRunning, lineIn, secondLine, stepOf}
+use Rattle.trace_claims.proofs.Either.{either}
 
--- of two outcomes that count alike either counts so
-either : {n : ℕ} (t : Bool) (o p : Outcome) → o .run .lines ≡ n → p .run .lines ≡ n → cond t o p .run .lines ≡ n
-either true o p e f = e
-either false o p e f = f
+-- an outcome has one line more than a run
+abbrev Counts : Run → Outcome → Type 0
+Counts run o = o .run .lines ≡ counted (run .lines)
 
-later-lines : (run : Run) (l : List ℕ) → laterLine run l .run .lines ≡ counted (run .lines)
+later-lines : (run : Run) (l : List ℕ) → Counts run (laterLine run l)
 unfolding laterLine unread called repliedWith passed
 later-lines run l = by-asked (readingOf l .asked) (readingOf l .bytes)
   where
-    by-asked : (a : Asked) (bytes : List ℕ) → doing run a bytes .run .lines ≡ counted (run .lines)
+    by-asked : (a : Asked) (bytes : List ℕ) → Counts run (doing run a bytes)
     by-asked Unreadable bytes = refl
     by-asked (Call k) bytes = refl
 
-first-lines : (run : Run) (l : List ℕ) → firstLine run l .run .lines ≡ counted (run .lines)
+first-lines : (run : Run) (l : List ℕ) → Counts run (firstLine run l)
 unfolding firstLine holding broken passed
-first-lines run l = either (readConfig l .readable) _ _ refl refl
+first-lines run l = either (Counts run) (readConfig l .readable) refl refl
 
-partial-lines : (run : Run) (l : List ℕ) → partialLine run l .run .lines ≡ counted (run .lines)
+partial-lines : (run : Run) (l : List ℕ) → Counts run (partialLine run l)
 unfolding partialLine begun broken passed
-partial-lines run l = either (readPartial (run .channel .own .config) l .readable) _ _ refl refl
+partial-lines run l = either (Counts run) (readPartial (run .channel .own .config) l .readable) refl refl
 
-following-lines : (run : Run) (l : List ℕ) → following run l .run .lines ≡ counted (run .lines)
+following-lines : (run : Run) (l : List ℕ) → Counts run (following run l)
 unfolding following passed
-following-lines run l = either (isRunning (run .phase)) _ _ (later-lines run l) refl
+following-lines run l = either (Counts run) (isRunning (run .phase)) (later-lines run l) refl
 
-second-lines : (run : Run) (l : List ℕ) → secondLine run l .run .lines ≡ counted (run .lines)
+second-lines : (run : Run) (l : List ℕ) → Counts run (secondLine run l)
 unfolding secondLine begun
-second-lines run l = either (isPartial l) _ _ (partial-lines run l) (following-lines (begun (run .channel .own .config) (run .lines) .run) l)
+second-lines run l = either (Counts run) (isPartial l) (partial-lines run l) (following-lines (begun (run .channel .own .config) (run .lines) .run) l)
 
 step-lines : (run : Run) (l : List ℕ) → stepOf run l .lines ≡ counted (run .lines)
 unfolding lineIn passed
 step-lines run l = by-phase (run .phase)
   where
-    by-phase : (p : Phase) → lineIn p run l .run .lines ≡ counted (run .lines)
+    by-phase : (p : Phase) → Counts run (lineIn p run l)
     by-phase First = first-lines run l
     by-phase Second = second-lines run l
     by-phase Running = later-lines run l

@@ -2,5 +2,6 @@ mod AtEnd
 mod Blocks
 mod Counted
 mod Cut
+mod Either
 mod Reached
 pub mod Theorem

@@ -1,11 +1,11 @@
 -- `trace::block_at` meets its contract. Assumes nothing.
 use mathlib.Core.Path.{_≡_, refl, _∙_}
 use mathlib.Core.List.{_++_}
-use Prim.Native.Nat.{_+_, _*_, _≤_}
+use Prim.Native.Nat.{_+_}
 use native.Mathlib.Omega.{arith}
 use borrow.Author.Needs.{needs}
 use borrow.Author.Tests.{le-leb, lt-leb}
-use lib.ListN.{length, replicate, take, length-append, length-take}
+use lib.ListN.{length, replicate, length-append, length-take}
 use Rattle.print.proofs.Wrote.{wrote-none}
 use Rattle.trace.specs.Trace.{blockMost, blockOf, isTaken, keptIn, keptMost}
 use Rattle.trace.proofs.Text.{array-length, filled-text}
