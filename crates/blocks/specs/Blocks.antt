@@ -1,9 +1,9 @@
 -- A text that is read in blocks: the lines that are whole, and what is kept of the unfinished one. Assumes nothing.
 use Prim.Native.Nat.{ℕ, zero, suc, _+_}
-use mathlib.Core.Bool.{cond}
+use mathlib.Core.Bool.{Bool, cond}
 use mathlib.Core.List.{List, [], _∷_}
-use lib.Dec.{eqb}
-use lib.ListN.{take, drop}
+use lib.Dec.{eqb, leb}
+use lib.ListN.{length, take, drop}
 use Rattle.text.specs.Lines.{lineFeed, linesOf}
 
 -- the most bytes that a line may have
@@ -35,3 +35,11 @@ unfinished s = drop (wholeLen s) s
 -- what is kept of that
 abbrev pub keptOf : List ℕ → List ℕ
 keptOf s = cut (unfinished s)
+
+-- the most lines that are counted: the largest number of 64 bits
+abbrev pub linesMost : ℕ
+linesMost = 18446744073709551615
+
+-- the lines of a text can be counted behind n lines, an unfinished one with them
+abbrev pub linesFit : ℕ → List ℕ → Bool
+linesFit n s = leb (n + length (linesOf s)) linesMost

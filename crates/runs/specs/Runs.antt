@@ -5,6 +5,7 @@ use mathlib.Core.List.{List, []}
 use Prim.Native.Nat.{ℕ, _+_}
 use lib.Dec.{ltb}
 use lib.ListN.{take}
+use Rattle.blocks.specs.Blocks.{linesMost}
 use Rattle.channel.specs.declared.state.Channel.{Channel}
 use Rattle.channel.specs.declared.state.Notes.{Notes}
 use Rattle.channel.specs.Channel.{notes}
@@ -20,11 +21,7 @@ use Rattle.runs.specs.declared.Step.{Step}
 abbrev pub runOf : Phase → ℕ → Channel → Run
 runOf phase lines channel = record { phase = phase; lines = lines; channel = channel }
 
--- the most lines that are counted: the largest number of 64 bits, at which the count stands still
-abbrev pub linesMost : ℕ
-linesMost = 18446744073709551615
-
--- the count with one more line, which is the number of that line
+-- the count with one more line, which is the number of that line; at the most that are counted it stands still
 unfoldable pub counted : ℕ → ℕ
 counted n = cond (ltb n linesMost) (n + 1) n
 

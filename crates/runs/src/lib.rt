@@ -3,6 +3,7 @@
 // Promises: the count of the lines, the line without notes and frame, and which bytes of a frame are printed, by the
 // definitions of specs/Runs. Leaves to others: what a line does to the run (`config_lines`, `replay`).
 use answers::Answer;
+use blocks::LINES_MOST;
 use channel::state::Channel;
 use channel::state::Notes;
 use states::Note;
@@ -42,9 +43,6 @@ pub struct Step {
     pub run: Run,
     pub at: usize,
 }
-
-// The most lines that are counted, which is the largest number of a line.
-pub const LINES_MOST: u64 = 18446744073709551615;
 
 // The count with one more line: the number of that line.
 pub fn counted(n: u64) -> u64

@@ -11,10 +11,10 @@ use Rattle.answers.specs.declared.Answer.the-variants.{Done, Length}
 use Rattle.config_line.specs.ConfigLine.{readConfig}
 use Rattle.print.specs.Print.{Wrote}
 use Rattle.text.specs.Lines.{linesOf}
-use Rattle.blocks.specs.Blocks.{keptOf, lineMost, wholeLines}
+use Rattle.blocks.specs.Blocks.{keptOf, lineMost, linesFit, wholeLines}
 use Rattle.runs.specs.declared.Phase.the-variants.{First}
 use Rattle.runs.specs.declared.Run.{Run}
-use Rattle.runs.specs.Runs.{Outcome, linesMost}
+use Rattle.runs.specs.Runs.{Outcome}
 use Rattle.config_lines.specs.ConfigLines.{holding}
 use Rattle.trace_line.specs.TraceLine.{andThen, ending, room}
 use Rattle.call_lines.specs.CallLines.{linesFrom}
@@ -75,7 +75,7 @@ pub record BlockOutcome : Type 0 where
 
 -- a block is taken exactly if it is not too long, and the lines with it, an unfinished one counted, are not too many
 unfoldable pub isTaken : Trace → List ℕ → Bool
-isTaken t b = leb (length b) blockMost && leb (t .run .lines + length (linesOf (keptIn t ++ b))) linesMost
+isTaken t b = leb (length b) blockMost && linesFit (t .run .lines) (keptIn t ++ b)
 
 abbrev pub taken : Run → List ℕ → BlockOutcome
 taken run s = record { answer = Done; trace = keeping (linesFrom run (wholeLines s) .run) (keptOf s); text = linesFrom run (wholeLines s) .text }

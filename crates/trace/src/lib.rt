@@ -6,7 +6,6 @@
 // however they are cut into blocks (`trace_claims`).
 use answers::Answer;
 use blocks::LINE_MOST;
-use runs::LINES_MOST;
 use runs::Phase;
 use runs::Run;
 use runs::Step;
@@ -14,11 +13,10 @@ use text::Span;
 ghost use mathlib.Core.Path.{_≡_};
 ghost use mathlib.Core.List.{_++_};
 ghost use Prim.Native.Nat.{_+_, _*_, _≤_};
-ghost use lib.Dec.{leb};
 ghost use lib.ListN.{length, take};
 ghost use Rattle.text.specs.Filled.{fill, filled};
 ghost use Rattle.text.specs.Lines.{linesOf};
-ghost use Rattle.runs.specs.Runs.{Gives, linesMost};
+ghost use Rattle.runs.specs.Runs.{Gives};
 ghost use Rattle.trace_line.specs.TraceLine.{room};
 ghost use Rattle.call_lines.specs.CallLines.{linesFrom};
 ghost use Rattle.trace.specs.Trace.{GivesBlock, blockOf, blockRoom, ended, firstRun, keeping, refusedAt, start, taken, wholeFrom};
@@ -124,18 +122,6 @@ fn put_text(line: &[u8], kept: usize, block: &[u8], text: &mut [u8]) -> usize
     before.len() + block.len()
 }
 
-// Have all lines of a text a number, behind so many lines? They are counted only where their bytes are too many: a text has
-// no more lines than bytes.
-fn lines_fit(lines: u64, text: &[u8]) -> bool
-    ensures { λ r. ⌜ r ≡ leb (lines + length (linesOf (now (text .entry)))) linesMost ⌝ }
-{
-    let left = LINES_MOST - lines;
-    if (text.len() as u64) <= left {
-        return true;
-    }
-    (text::line_count(text) as u64) <= left
-}
-
 // A block that is taken, by its text: its whole lines are run and printed, and what is needed of the unfinished line is kept.
 // There must be room for what each line prints.
 fn taken(run: Run, text: &[u8], out: &mut [u8], at: usize) -> BlockReply
@@ -175,7 +161,7 @@ pub fn block_at(trace: Trace, block: &[u8], out: &mut [u8], at: usize) -> BlockR
     let mut buf = [0u8; TEXT_MOST];
     let n = put_text(&line, trace.kept, block, &mut buf);
     let text = slices::part(&buf, 0, n);
-    if lines_fit(trace.run.lines, text) {
+    if blocks::lines_fit(trace.run.lines, text) {
         return taken(trace.run, text, out, at);
     }
     refused(trace, at)

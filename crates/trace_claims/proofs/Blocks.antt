@@ -11,12 +11,12 @@ use Rattle.answers.specs.declared.Answer.the-variants.{Done, Length}
 use Rattle.text.specs.Lines.{linesOf}
 use Rattle.text.proofs.Filled.{filled-front}
 use Rattle.text.proofs.Lines.{lines-grow}
-use Rattle.blocks.specs.Blocks.{cut, keptOf, wholeLen, wholeLines}
+use Rattle.blocks.specs.Blocks.{cut, keptOf, linesMost, wholeLen, wholeLines}
 use Rattle.blocks.specs.Runs.{after, outs}
 use Rattle.blocks.proofs.Whole.{kept-short}
 use Rattle.blocks.proofs.Blocks.{after-end, after-more, count-more, kept-more, outs-end, outs-more}
 use Rattle.runs.specs.declared.Run.{Run}
-use Rattle.runs.specs.Runs.{Outcome, linesMost}
+use Rattle.runs.specs.Runs.{Outcome}
 use Rattle.config_lines.specs.ConfigLines.{holding}
 use Rattle.trace_line.specs.TraceLine.{ending, stepOf, textOf}
 use Rattle.call_lines.specs.CallLines.{linesFrom}

@@ -9,11 +9,12 @@ use Rattle.command_names.specs.declared.Asked.{Asked}
 use Rattle.command_names.specs.declared.Asked.the-variants.{Unreadable, Call}
 use Rattle.config_line.specs.ConfigLine.{readConfig}
 use Rattle.pn_line.specs.PnLine.{isPartial, readPartial}
+use Rattle.blocks.specs.Blocks.{linesMost}
 use Rattle.blocks.specs.Runs.{after}
 use Rattle.runs.specs.declared.Phase.{Phase}
 use Rattle.runs.specs.declared.Phase.the-variants.{First, Second, Running, Ended}
 use Rattle.runs.specs.declared.Run.{Run}
-use Rattle.runs.specs.Runs.{Outcome, counted, linesMost, passed}
+use Rattle.runs.specs.Runs.{Outcome, counted, passed}
 use Rattle.replay.specs.Replay.{called, doing, laterLine, readingOf, repliedWith, unread}
 use Rattle.config_lines.specs.ConfigLines.{begun, broken, firstLine, holding, partialLine}
 use Rattle.trace_line.specs.TraceLine.{following, isRunning, lineIn, secondLine, stepOf}

@@ -14,13 +14,13 @@ use Rattle.decision.specs.Decision as calls
 use Rattle.config_line.specs.ConfigLine.{readConfig}
 use Rattle.pn_line.specs.PnLine.{isPartial, readPartial}
 use Rattle.sleep.specs.Sleep.{ChannelSleeps, reached}
-use Rattle.blocks.specs.Blocks.{cut, keptOf, wholeLines}
+use Rattle.blocks.specs.Blocks.{cut, keptOf, linesMost, wholeLines}
 use Rattle.blocks.specs.Runs.{after}
 use Rattle.text.specs.Lines.{linesOf}
 use Rattle.dispatch.specs.Calls.{callFor}
 use Rattle.runs.specs.declared.Phase.the-variants.{Running}
 use Rattle.runs.specs.declared.Run.{Run}
-use Rattle.runs.specs.Runs.{Outcome, linesMost, outcome}
+use Rattle.runs.specs.Runs.{Outcome, outcome}
 use Rattle.replay.specs.Replay.{readingOf}
 use Rattle.trace_line.specs.TraceLine.{lineOf, stepOf}
 use Rattle.trace.specs.declared.Trace.{Trace}

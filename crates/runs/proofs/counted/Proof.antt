@@ -2,7 +2,8 @@
 use native.Mathlib.Omega.{arith}
 use borrow.Author.Needs.{needs}
 use borrow.Author.Tests.{lt-ltb, le-ltb}
-use Rattle.runs.specs.Runs.{counted, linesMost}
+use Rattle.blocks.specs.Blocks.{linesMost}
+use Rattle.runs.specs.Runs.{counted}
 use Rattle.runs.proofs.counted.Statement.{statement}
 use Rattle.runs.proofs.counted.Tie as tie
 

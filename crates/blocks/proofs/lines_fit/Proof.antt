@@ -1,4 +1,4 @@
--- `trace::lines_fit` meets its contract. Assumes nothing.
+-- `blocks::lines_fit` meets its contract. Assumes nothing.
 use mathlib.Core.Path.{sym}
 use Prim.Native.Nat.{_+_, _-_}
 use native.Mathlib.Omega.{arith}
@@ -8,9 +8,9 @@ use lib.ListN.{length}
 use Rattle.choice.proofs.Tests.{same-leb}
 use Rattle.text.specs.Lines.{linesOf}
 use Rattle.text.proofs.Lines.{count-le}
-use Rattle.runs.specs.Runs.{linesMost}
-use Rattle.trace.proofs.lines_fit.Statement.{statement}
-use Rattle.trace.proofs.lines_fit.Tie as tie
+use Rattle.blocks.specs.Blocks.{linesMost}
+use Rattle.blocks.proofs.lines_fit.Statement.{statement}
+use Rattle.blocks.proofs.lines_fit.Tie as tie
 
 returns : tie.Need-returns
 returns c =
