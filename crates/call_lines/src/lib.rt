@@ -3,6 +3,7 @@
 // Promises: the run after all of them and the text that they print, by the definition of specs/CallLines. Leaves to others:
 // what one line comes to (`replay`), and the lines of the configuration before them (`trace`).
 use config::PNC_MOST;
+use replay::Moved;
 use runs::Phase;
 use runs::Run;
 use runs::Step;
@@ -28,20 +29,26 @@ pub fn running(run: Run, text: &[u8], from: usize, out: &mut [u8], begin: usize)
     let setup = traffic::setup_of(c, t);
     let mut limits = [0u16; PNC_MOST];
     pn_limits::put_limits(c, t, &mut limits);
-    let mut m = run.channel.own.mode;
-    let mut x = run.channel.own.traffic;
+    let mode = run.channel.own.mode;
+    let traffic = run.channel.own.traffic;
+    let mut now = Moved {
+        mode: mode,
+        traffic: traffic,
+        at: begin,
+    };
     let mut user = run.channel.own.user;
     let mut requests = run.channel.own.requests;
     let mut era = run.channel.own.era;
     let mut eira = run.channel.eira;
     let mut n = run.lines;
-    let mut put = begin;
     let mut at = from;
     loop {
         match text::line_at(text, at) {
             Span::Line(first, end) => {
+                let m = now.mode;
+                let x = now.traffic;
                 let ok = soundness::sound_by(passes, setup, m, x, &limits, &era, &eira);
-                let s = replay::later_line_in_place(
+                now = replay::later_line_in_place(
                     ok,
                     c,
                     t,
@@ -54,15 +61,14 @@ pub fn running(run: Run, text: &[u8], from: usize, out: &mut [u8], begin: usize)
                     n,
                     &text[first..end],
                     out,
-                    put,
+                    now.at,
                 );
-                m = s.mode;
-                x = s.traffic;
                 n = runs::counted(n);
-                put = s.at;
                 at = end + 1;
             }
             Span::End => {
+                let m = now.mode;
+                let x = now.traffic;
                 let channel = channel::channel_of(c, t, m, x, user, requests, era, eira);
                 return Step {
                     run: Run {
@@ -70,7 +76,7 @@ pub fn running(run: Run, text: &[u8], from: usize, out: &mut [u8], begin: usize)
                         lines: n,
                         channel: channel,
                     },
-                    at: put,
+                    at: now.at,
                 };
             }
         }
