@@ -1,4 +1,4 @@
--- A text that grows by blocks: its whole lines grow by those of its unfinished line and the block, and of the unfinished line the
+-- A text that grows by blocks: its finished lines grow by those of its unfinished line and the block, and of the unfinished line the
 -- start is enough. So a run over blocks, which keeps only that, gives what the run over the lines of the whole text gives: for
 -- every block, and for every state that the run carries along. Assumes nothing.
 use mathlib.Core.Path.{_≡_, refl, sym, ap, _∙_}
@@ -10,11 +10,11 @@ use lib.Dec.{eqb}
 use lib.ListN.{length, take, drop, length-append, take-append-drop}
 use lib.Seq.{take-append-add, drop-append-add, take-take, take-length, drop-length, length-take-le}
 use Rattle.text.specs.Lines.{before, lineFeed, linesOf}
-use Rattle.blocks.specs.Blocks.{cut, keptOf, lineMost, unfinished, wholeLen, wholeLines, wholeWith}
-use Rattle.blocks.proofs.Whole.{whole-le}
+use Rattle.blocks.specs.Blocks.{cut, keptOf, lineMost, unfinished, finishedLen, finishedLines, finishedWith}
+use Rattle.blocks.proofs.Finished.{finished-le}
 use Rattle.blocks.specs.Runs.{after, outs}
 
--- ---- whole lines and the unfinished line
+-- ---- finished lines and the unfinished line
 
 -- a text that has a byte has a line
 some-line : (x : ℕ) (xs : List ℕ) → (l : List ℕ) × (ls : List (List ℕ)) × (linesOf (x ∷ xs) ≡ l ∷ ls)
@@ -26,13 +26,13 @@ some-line x xs = by-byte (eqb x lineFeed) (linesOf xs)
     by-byte false [] = (x ∷ [], [], refl)
     by-byte false (l ∷ ls) = (x ∷ l, ls, refl)
 
--- the lines of a text and more: its whole lines, then those of its unfinished line and more
-lines-split : (s t : List ℕ) → linesOf (s ++ t) ≡ wholeLines s ++ linesOf (unfinished s ++ t)
-unfolding linesOf wholeLen
+-- the lines of a text and more: its finished lines, then those of its unfinished line and more
+lines-split : (s t : List ℕ) → linesOf (s ++ t) ≡ finishedLines s ++ linesOf (unfinished s ++ t)
+unfolding linesOf finishedLen
 lines-split [] t = refl
-lines-split (x ∷ xs) t = by-whole (wholeLen xs) xs (whole-le xs) (lines-split xs t)
+lines-split (x ∷ xs) t = by-length (finishedLen xs) xs (finished-le xs) (lines-split xs t)
   where
-    by-first : (b : Bool) → eqb x lineFeed ≡ b → (xs : List ℕ) → linesOf (x ∷ xs ++ t) ≡ linesOf (take (wholeWith x 0) (x ∷ xs)) ++ linesOf (drop (wholeWith x 0) (x ∷ xs) ++ t)
+    by-first : (b : Bool) → eqb x lineFeed ≡ b → (xs : List ℕ) → linesOf (x ∷ xs ++ t) ≡ linesOf (take (finishedWith x 0) (x ∷ xs)) ++ linesOf (drop (finishedWith x 0) (x ∷ xs) ++ t)
     by-first true e xs = rw (e, e)
     by-first false e xs = rw (e, e)
 
@@ -41,69 +41,69 @@ lines-split (x ∷ xs) t = by-whole (wholeLen xs) xs (whole-le xs) (lines-split 
     by-line true ls ms ns a e = rw e
     by-line false ls ms ns a e = rw (e, a .2)
 
-    by-whole : (n : ℕ) (xs : List ℕ) → n ≤ length xs → linesOf (xs ++ t) ≡ linesOf (take n xs) ++ linesOf (drop n xs ++ t)
-        → linesOf (x ∷ xs ++ t) ≡ linesOf (take (wholeWith x n) (x ∷ xs)) ++ linesOf (drop (wholeWith x n) (x ∷ xs) ++ t)
-    by-whole zero xs h e = by-first (eqb x lineFeed) refl xs
-    by-whole (suc n) [] h e = absurd (omega arith)
-    by-whole (suc n) (y ∷ ys) h e = by-line (eqb x lineFeed) _ _ _ (some-line y (take n ys)) e
+    by-length : (n : ℕ) (xs : List ℕ) → n ≤ length xs → linesOf (xs ++ t) ≡ linesOf (take n xs) ++ linesOf (drop n xs ++ t)
+        → linesOf (x ∷ xs ++ t) ≡ linesOf (take (finishedWith x n) (x ∷ xs)) ++ linesOf (drop (finishedWith x n) (x ∷ xs) ++ t)
+    by-length zero xs h e = by-first (eqb x lineFeed) refl xs
+    by-length (suc n) [] h e = absurd (omega arith)
+    by-length (suc n) (y ∷ ys) h e = by-line (eqb x lineFeed) _ _ _ (some-line y (take n ys)) e
 
 -- the same with nothing more
-lines-last : (s : List ℕ) → wholeLines s ++ linesOf (unfinished s) ≡ linesOf s
+lines-last : (s : List ℕ) → finishedLines s ++ linesOf (unfinished s) ≡ linesOf s
 lines-last s = sym (ap linesOf (sym (append-nil s)) ∙ lines-split s [] ∙ rw append-nil)
 
--- the whole lines of a text are whole
-whole-whole : (s : List ℕ) → wholeLen (take (wholeLen s) s) ≡ wholeLen s
-unfolding wholeLen
-whole-whole [] = refl
-whole-whole (x ∷ xs) = by-whole (wholeLen xs) (whole-whole xs)
+-- the finished lines of a text are whole
+finished-again : (s : List ℕ) → finishedLen (take (finishedLen s) s) ≡ finishedLen s
+unfolding finishedLen
+finished-again [] = refl
+finished-again (x ∷ xs) = by-length (finishedLen xs) (finished-again xs)
   where
-    by-byte : (t : Bool) → eqb x lineFeed ≡ t → wholeLen (take (cond t 1 0) (x ∷ xs)) ≡ cond t 1 0
+    by-byte : (t : Bool) → eqb x lineFeed ≡ t → finishedLen (take (cond t 1 0) (x ∷ xs)) ≡ cond t 1 0
     by-byte true e = rw e
     by-byte false e = refl
 
-    by-whole : (n : ℕ) → wholeLen (take n xs) ≡ n → wholeLen (take (wholeWith x n) (x ∷ xs)) ≡ wholeWith x n
-    by-whole zero e = by-byte (eqb x lineFeed) refl
-    by-whole (suc n) e = rw e
+    by-length : (n : ℕ) → finishedLen (take n xs) ≡ n → finishedLen (take (finishedWith x n) (x ∷ xs)) ≡ finishedWith x n
+    by-length zero e = by-byte (eqb x lineFeed) refl
+    by-length (suc n) e = rw e
 
--- one more byte of whole lines
-with-more : (x n : ℕ) → eqb x lineFeed ≡ true → wholeWith x n ≡ suc n
+-- one more byte of finished lines
+with-more : (x n : ℕ) → eqb x lineFeed ≡ true → finishedWith x n ≡ suc n
 with-more x zero e = rw e
 with-more x (suc n) e = refl
 
--- the whole lines of a text and more end where those of its unfinished line and more end
-whole-split : (s t : List ℕ) → wholeLen (s ++ t) ≡ wholeLen s + wholeLen (unfinished s ++ t)
-unfolding wholeLen
-whole-split [] t = omega arith
-whole-split (x ∷ xs) t = by-whole (wholeLen xs) (whole-split xs t)
+-- the finished lines of a text and more end where those of its unfinished line and more end
+finished-split : (s t : List ℕ) → finishedLen (s ++ t) ≡ finishedLen s + finishedLen (unfinished s ++ t)
+unfolding finishedLen
+finished-split [] t = omega arith
+finished-split (x ∷ xs) t = by-length (finishedLen xs) (finished-split xs t)
   where
-    by-byte : (b : Bool) → eqb x lineFeed ≡ b → wholeWith x (wholeLen (xs ++ t)) ≡ cond b 1 0 + wholeLen (drop (cond b 1 0) (x ∷ xs) ++ t)
-    by-byte true e = with-more x (wholeLen (xs ++ t)) e ∙ omega arith
+    by-byte : (b : Bool) → eqb x lineFeed ≡ b → finishedWith x (finishedLen (xs ++ t)) ≡ cond b 1 0 + finishedLen (drop (cond b 1 0) (x ∷ xs) ++ t)
+    by-byte true e = with-more x (finishedLen (xs ++ t)) e ∙ omega arith
     by-byte false e = omega arith
 
-    with-some : (n m : ℕ) → wholeWith x (suc n + m) ≡ suc (suc n) + m
+    with-some : (n m : ℕ) → finishedWith x (suc n + m) ≡ suc (suc n) + m
     with-some n m = let e : suc n + m ≡ suc (n + m) = omega arith in rw e (omega arith)
 
-    by-whole : (n : ℕ) → wholeLen (xs ++ t) ≡ n + wholeLen (drop n xs ++ t) → wholeWith x (wholeLen (xs ++ t)) ≡ wholeWith x n + wholeLen (drop (wholeWith x n) (x ∷ xs) ++ t)
-    by-whole zero e = by-byte (eqb x lineFeed) refl
-    by-whole (suc n) e = rw e (with-some n (wholeLen (drop (suc n) xs ++ t)))
+    by-length : (n : ℕ) → finishedLen (xs ++ t) ≡ n + finishedLen (drop n xs ++ t) → finishedWith x (finishedLen (xs ++ t)) ≡ finishedWith x n + finishedLen (drop (finishedWith x n) (x ∷ xs) ++ t)
+    by-length zero e = by-byte (eqb x lineFeed) refl
+    by-length (suc n) e = rw e (with-some n (finishedLen (drop (suc n) xs ++ t)))
 
 module _ (s t : List ℕ) where
-  -- a text as its whole lines and its unfinished line
-  parts : take (wholeLen s) s ++ (unfinished s ++ t) ≡ s ++ t
-  parts = sym (append-assoc (take (wholeLen s) s) (unfinished s) t) ∙ ap (λ (l : List ℕ). l ++ t) (take-append-drop (wholeLen s) s)
+  -- a text as its finished lines and its unfinished line
+  parts : take (finishedLen s) s ++ (unfinished s ++ t) ≡ s ++ t
+  parts = sym (append-assoc (take (finishedLen s) s) (unfinished s) t) ∙ ap (λ (l : List ℕ). l ++ t) (take-append-drop (finishedLen s) s)
 
-  -- cut behind those of the whole lines
-  at-whole : (n : ℕ) → length (take (wholeLen s) s) + n ≡ wholeLen s + n
-  at-whole n = ap (λ (k : ℕ). k + n) (length-take-le (wholeLen s) s (whole-le s))
+  -- cut behind those of the finished lines
+  at-whole : (n : ℕ) → length (take (finishedLen s) s) + n ≡ finishedLen s + n
+  at-whole n = ap (λ (k : ℕ). k + n) (length-take-le (finishedLen s) s (finished-le s))
 
-  -- the whole lines grow by those of the unfinished line and more
-  whole-lines-more : wholeLines (s ++ t) ≡ wholeLines s ++ wholeLines (unfinished s ++ t)
-  whole-lines-more =
-      let w = take (wholeLen s) s in
+  -- the finished lines grow by those of the unfinished line and more
+  finished-lines-more : finishedLines (s ++ t) ≡ finishedLines s ++ finishedLines (unfinished s ++ t)
+  finished-lines-more =
+      let w = take (finishedLen s) s in
       let u = unfinished s ++ t in
-      let n = wholeLen u in
-      let e : wholeLen w ≡ length w = whole-whole s ∙ sym (length-take-le (wholeLen s) s (whole-le s)) in
-      ap (λ (k : ℕ). linesOf (take k (s ++ t))) (whole-split s t ∙ sym (at-whole n))
+      let n = finishedLen u in
+      let e : finishedLen w ≡ length w = finished-again s ∙ sym (length-take-le (finishedLen s) s (finished-le s)) in
+      ap (λ (k : ℕ). linesOf (take k (s ++ t))) (finished-split s t ∙ sym (at-whole n))
       ∙ ap (λ (l : List ℕ). linesOf (take (length w + n) l)) (sym parts)
       ∙ ap linesOf (take-append-add w u n)
       ∙ lines-split w (take n u)
@@ -112,20 +112,20 @@ module _ (s t : List ℕ) where
   -- and the unfinished line is that of the unfinished line and more
   unfinished-more : unfinished (s ++ t) ≡ unfinished (unfinished s ++ t)
   unfinished-more =
-      let w = take (wholeLen s) s in
+      let w = take (finishedLen s) s in
       let u = unfinished s ++ t in
-      let n = wholeLen u in
-      ap (λ (k : ℕ). drop k (s ++ t)) (whole-split s t ∙ sym (at-whole n))
+      let n = finishedLen u in
+      ap (λ (k : ℕ). drop k (s ++ t)) (finished-split s t ∙ sym (at-whole n))
       ∙ ap (drop (length w + n)) (sym parts)
       ∙ drop-append-add w u n
 
 -- ---- the unfinished line has no line feed
 
 abbrev Open : List ℕ → Type 0
-Open p = wholeLen p ≡ 0
+Open p = finishedLen p ≡ 0
 
 -- a byte that ends no line, before bytes that end none
-open-head : (x n : ℕ) → wholeWith x n ≡ 0 → (eqb x lineFeed ≡ false) × (n ≡ 0)
+open-head : (x n : ℕ) → finishedWith x n ≡ 0 → (eqb x lineFeed ≡ false) × (n ≡ 0)
 open-head x zero h = (by-byte (eqb x lineFeed) h, refl)
   where
     by-byte : (b : Bool) → _≡_ {A = ℕ} (cond b 1 0) 0 → b ≡ false
@@ -134,47 +134,47 @@ open-head x zero h = (by-byte (eqb x lineFeed) h, refl)
 open-head x (suc n) h = absurd (omega arith)
 
 open-rest : (s : List ℕ) → Open (unfinished s)
-unfolding wholeLen
+unfolding finishedLen
 open-rest [] = refl
-open-rest (x ∷ xs) = by-whole (wholeLen xs) refl (open-rest xs)
+open-rest (x ∷ xs) = by-length (finishedLen xs) refl (open-rest xs)
   where
-    by-byte : (b : Bool) → eqb x lineFeed ≡ b → wholeLen xs ≡ 0 → Open (drop (cond b 1 0) (x ∷ xs))
+    by-byte : (b : Bool) → eqb x lineFeed ≡ b → finishedLen xs ≡ 0 → Open (drop (cond b 1 0) (x ∷ xs))
     by-byte true e h = h
     by-byte false e h = rw (h, e)
 
-    by-whole : (n : ℕ) → wholeLen xs ≡ n → Open (drop n xs) → Open (drop (wholeWith x n) (x ∷ xs))
-    by-whole zero e h = by-byte (eqb x lineFeed) refl e
-    by-whole (suc n) e h = h
+    by-length : (n : ℕ) → finishedLen xs ≡ n → Open (drop n xs) → Open (drop (finishedWith x n) (x ∷ xs))
+    by-length zero e h = by-byte (eqb x lineFeed) refl e
+    by-length (suc n) e h = h
 
 open-take : (k : ℕ) (p : List ℕ) → Open p → Open (take k p)
-unfolding wholeLen
+unfolding finishedLen
 open-take zero p h = refl
 open-take (suc k) [] h = refl
-open-take (suc k) (x ∷ p) h = let o = open-head x (wholeLen p) h in rw (open-take k p (o .1), o .0)
+open-take (suc k) (x ∷ p) h = let o = open-head x (finishedLen p) h in rw (open-take k p (o .1), o .0)
 
 -- an unfinished line goes on with the first line behind it
 lines-onto : (p t : List ℕ) {l : List ℕ} {ls : List (List ℕ)} → Open p → linesOf t ≡ l ∷ ls → linesOf (p ++ t) ≡ (p ++ l) ∷ ls
-unfolding linesOf wholeLen
+unfolding linesOf finishedLen
 lines-onto [] t h e = e
-lines-onto (x ∷ p) t h e = let o = open-head x (wholeLen p) h in rw (o .0, lines-onto p t (o .1) e)
+lines-onto (x ∷ p) t h e = let o = open-head x (finishedLen p) h in rw (o .0, lines-onto p t (o .1) e)
 
 -- it is a line, if it has a byte
 lines-open : (x : ℕ) (p : List ℕ) → Open (x ∷ p) → linesOf (x ∷ p) ≡ (x ∷ p) ∷ []
-unfolding linesOf wholeLen
+unfolding linesOf finishedLen
 lines-open x [] h = rw (open-head x 0 h .0)
-lines-open x (y ∷ p) h = let o = open-head x (wholeLen (y ∷ p)) h in rw (o .0, lines-open y p (o .1))
+lines-open x (y ∷ p) h = let o = open-head x (finishedLen (y ∷ p)) h in rw (o .0, lines-open y p (o .1))
 
 open-append : (p t : List ℕ) → Open p → Open t → Open (p ++ t)
-unfolding wholeLen
+unfolding finishedLen
 open-append [] t h e = e
-open-append (x ∷ p) t h e = let o = open-head x (wholeLen p) h in rw (open-append p t (o .1) e, o .0)
+open-append (x ∷ p) t h e = let o = open-head x (finishedLen p) h in rw (open-append p t (o .1) e, o .0)
 
-whole-append : (p t : List ℕ) {m : ℕ} → Open p → wholeLen t ≡ suc m → wholeLen (p ++ t) ≡ length p + suc m
-unfolding wholeLen
-whole-append [] t h e = e ∙ omega arith
-whole-append (x ∷ p) t {m} h e =
-    let o = open-head x (wholeLen p) h in
-    let i : wholeLen (p ++ t) ≡ suc (length p + m) = whole-append p t (o .1) e ∙ omega arith in
+finished-append : (p t : List ℕ) {m : ℕ} → Open p → finishedLen t ≡ suc m → finishedLen (p ++ t) ≡ length p + suc m
+unfolding finishedLen
+finished-append [] t h e = e ∙ omega arith
+finished-append (x ∷ p) t {m} h e =
+    let o = open-head x (finishedLen p) h in
+    let i : finishedLen (p ++ t) ≡ suc (length p + m) = finished-append p t (o .1) e ∙ omega arith in
     rw i (omega arith)
 
 -- ---- what a cut leaves of an unfinished line is enough
@@ -186,28 +186,28 @@ take-again (suc k) [] t = refl
 take-again (suc k) (x ∷ p) t = ap (λ (l : List ℕ). x ∷ l) (take-again k p t)
 
 module _ (p t : List ℕ) (o : Open p) where
-  -- the whole lines of an unfinished line and a block, each cut
-  whole-cut : map cut (wholeLines (cut p ++ t)) ≡ map cut (wholeLines (p ++ t))
-  unfolding linesOf wholeLen
-  whole-cut = by-whole (wholeLen t) refl
+  -- the finished lines of an unfinished line and a block, each cut
+  finished-cut : map cut (finishedLines (cut p ++ t)) ≡ map cut (finishedLines (p ++ t))
+  unfolding linesOf finishedLen
+  finished-cut = by-length (finishedLen t) refl
     where
-      by-lines : {m : ℕ} (s : List ℕ) → wholeLen s ≡ suc m → map cut (wholeLines (cut p ++ s)) ≡ map cut (wholeLines (p ++ s))
+      by-lines : {m : ℕ} (s : List ℕ) → finishedLen s ≡ suc m → map cut (finishedLines (cut p ++ s)) ≡ map cut (finishedLines (p ++ s))
       by-lines [] e = absurd (omega arith)
       by-lines {m} (y ∷ s) e =
           let f = some-line y (take m s) in
-          rw (whole-append p (y ∷ s) o e, whole-append (cut p) (y ∷ s) (open-take (lineMost + 1) p o) e, take-append-add, take-append-add)
+          rw (finished-append p (y ∷ s) o e, finished-append (cut p) (y ∷ s) (open-take (lineMost + 1) p o) e, take-append-add, take-append-add)
           (rw (lines-onto p (y ∷ take m s) o (f .2), lines-onto (cut p) (y ∷ take m s) (open-take (lineMost + 1) p o) (f .2)) (ap (λ (l : List ℕ). l ∷ map cut (f .1)) (take-again (lineMost + 1) p (f .0))))
 
-      by-whole : (n : ℕ) → wholeLen t ≡ n → map cut (wholeLines (cut p ++ t)) ≡ map cut (wholeLines (p ++ t))
-      by-whole zero e = rw (open-append p t o e, open-append (cut p) t (open-take (lineMost + 1) p o) e)
-      by-whole (suc m) e = by-lines t e
+      by-length : (n : ℕ) → finishedLen t ≡ n → map cut (finishedLines (cut p ++ t)) ≡ map cut (finishedLines (p ++ t))
+      by-length zero e = rw (open-append p t o e, open-append (cut p) t (open-take (lineMost + 1) p o) e)
+      by-length (suc m) e = by-lines t e
 
   kept-cut : keptOf (cut p ++ t) ≡ keptOf (p ++ t)
-  kept-cut = by-whole (wholeLen t) refl
+  kept-cut = by-length (finishedLen t) refl
     where
-      by-whole : (n : ℕ) → wholeLen t ≡ n → keptOf (cut p ++ t) ≡ keptOf (p ++ t)
-      by-whole zero e = rw (open-append p t o e, open-append (cut p) t (open-take (lineMost + 1) p o) e) (take-again (lineMost + 1) p t)
-      by-whole (suc m) e = rw (whole-append p t o e, whole-append (cut p) t (open-take (lineMost + 1) p o) e, drop-append-add, drop-append-add)
+      by-length : (n : ℕ) → finishedLen t ≡ n → keptOf (cut p ++ t) ≡ keptOf (p ++ t)
+      by-length zero e = rw (open-append p t o e, open-append (cut p) t (open-take (lineMost + 1) p o) e) (take-again (lineMost + 1) p t)
+      by-length (suc m) e = rw (finished-append p t o e, finished-append (cut p) t (open-take (lineMost + 1) p o) e, drop-append-add, drop-append-add)
 
 last-cut : (p : List ℕ) → Open p → map cut (linesOf (cut p)) ≡ map cut (linesOf p)
 last-cut [] o = refl
@@ -229,7 +229,7 @@ module _ (s b : List ℕ) where
   kept-more = kept-cut (unfinished s) b (open-rest s) ∙ ap cut (sym (unfinished-more s b))
 
   -- so many lines they have
-  pub count-more : length (wholeLines s) + length (linesOf (keptOf s ++ b)) ≡ length (linesOf (s ++ b))
+  pub count-more : length (finishedLines s) + length (linesOf (keptOf s ++ b)) ≡ length (linesOf (s ++ b))
   count-more =
       let e = count-cut (unfinished s) b (open-rest s) in
       rw (lines-split s b, length-append, e)
@@ -254,18 +254,18 @@ module _ {ℓ} {S : Type ℓ} (step : S → List ℕ → S) where
     after-like s a b e = sym (after-map s a) ∙ ap (after step s) e ∙ after-map s b
 
     module _ (o : S) (s : List ℕ) where
-      -- the state after the whole lines of a text, then after a block, is that after both
-      pub after-more : (b : List ℕ) → after step (after step o (wholeLines s)) (wholeLines (keptOf s ++ b)) ≡ after step o (wholeLines (s ++ b))
+      -- the state after the finished lines of a text, then after a block, is that after both
+      pub after-more : (b : List ℕ) → after step (after step o (finishedLines s)) (finishedLines (keptOf s ++ b)) ≡ after step o (finishedLines (s ++ b))
       after-more b =
-          after-like (after step o (wholeLines s)) (wholeLines (keptOf s ++ b)) (wholeLines (unfinished s ++ b)) (whole-cut (unfinished s) b (open-rest s))
-          ∙ sym (after-append o (wholeLines s) (wholeLines (unfinished s ++ b)))
-          ∙ ap (after step o) (sym (whole-lines-more s b))
+          after-like (after step o (finishedLines s)) (finishedLines (keptOf s ++ b)) (finishedLines (unfinished s ++ b)) (finished-cut (unfinished s) b (open-rest s))
+          ∙ sym (after-append o (finishedLines s) (finishedLines (unfinished s ++ b)))
+          ∙ ap (after step o) (sym (finished-lines-more s b))
 
       -- at the end what was kept is the last line
-      pub after-end : after step (after step o (wholeLines s)) (linesOf (keptOf s)) ≡ after step o (linesOf s)
+      pub after-end : after step (after step o (finishedLines s)) (linesOf (keptOf s)) ≡ after step o (linesOf s)
       after-end =
-          after-like (after step o (wholeLines s)) (linesOf (keptOf s)) (linesOf (unfinished s)) (last-cut (unfinished s) (open-rest s))
-          ∙ sym (after-append o (wholeLines s) (linesOf (unfinished s)))
+          after-like (after step o (finishedLines s)) (linesOf (keptOf s)) (linesOf (unfinished s)) (last-cut (unfinished s) (open-rest s))
+          ∙ sym (after-append o (finishedLines s) (linesOf (unfinished s)))
           ∙ ap (after step o) (lines-last s)
 
     module _ (out : S → List ℕ → List ℕ) (enough-out : (s : S) (l : List ℕ) → out s (cut l) ≡ out s l) where
@@ -285,16 +285,16 @@ module _ {ℓ} {S : Type ℓ} (step : S → List ℕ → S) where
       module _ (o : S) (s : List ℕ) where
         -- the same of what is put out
         pub outs-more : (b : List ℕ)
-            → outs step out o (wholeLines s) ++ outs step out (after step o (wholeLines s)) (wholeLines (keptOf s ++ b)) ≡ outs step out o (wholeLines (s ++ b))
+            → outs step out o (finishedLines s) ++ outs step out (after step o (finishedLines s)) (finishedLines (keptOf s ++ b)) ≡ outs step out o (finishedLines (s ++ b))
         outs-more b =
-            ap (λ (l : List ℕ). outs step out o (wholeLines s) ++ l)
-            (outs-like (after step o (wholeLines s)) (wholeLines (keptOf s ++ b)) (wholeLines (unfinished s ++ b)) (whole-cut (unfinished s) b (open-rest s)))
-            ∙ sym (outs-append o (wholeLines s) (wholeLines (unfinished s ++ b)))
-            ∙ ap (outs step out o) (sym (whole-lines-more s b))
+            ap (λ (l : List ℕ). outs step out o (finishedLines s) ++ l)
+            (outs-like (after step o (finishedLines s)) (finishedLines (keptOf s ++ b)) (finishedLines (unfinished s ++ b)) (finished-cut (unfinished s) b (open-rest s)))
+            ∙ sym (outs-append o (finishedLines s) (finishedLines (unfinished s ++ b)))
+            ∙ ap (outs step out o) (sym (finished-lines-more s b))
 
-        pub outs-end : outs step out o (wholeLines s) ++ outs step out (after step o (wholeLines s)) (linesOf (keptOf s)) ≡ outs step out o (linesOf s)
+        pub outs-end : outs step out o (finishedLines s) ++ outs step out (after step o (finishedLines s)) (linesOf (keptOf s)) ≡ outs step out o (linesOf s)
         outs-end =
-            ap (λ (l : List ℕ). outs step out o (wholeLines s) ++ l)
-            (outs-like (after step o (wholeLines s)) (linesOf (keptOf s)) (linesOf (unfinished s)) (last-cut (unfinished s) (open-rest s)))
-            ∙ sym (outs-append o (wholeLines s) (linesOf (unfinished s)))
+            ap (λ (l : List ℕ). outs step out o (finishedLines s) ++ l)
+            (outs-like (after step o (finishedLines s)) (linesOf (keptOf s)) (linesOf (unfinished s)) (last-cut (unfinished s) (open-rest s)))
+            ∙ sym (outs-append o (finishedLines s) (linesOf (unfinished s)))
             ∙ ap (outs step out o) (lines-last s)

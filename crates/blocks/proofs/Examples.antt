@@ -2,7 +2,7 @@
 use mathlib.Core.Path.{_≡_, refl}
 use mathlib.Core.List.{[], _∷_}
 use Rattle.text.specs.Lines.{linesOf}
-use Rattle.blocks.specs.Blocks.{keptOf, wholeLen, wholeLines}
+use Rattle.blocks.specs.Blocks.{keptOf, finishedLen, finishedLines}
 
 -- "A", a line without a byte, and "BC" without a line feed
 three-lines : linesOf (65 ∷ 10 ∷ 10 ∷ 66 ∷ 67 ∷ []) ≡ (65 ∷ []) ∷ [] ∷ (66 ∷ 67 ∷ []) ∷ []
@@ -15,10 +15,10 @@ unfolding linesOf
 no-line-more = refl
 
 -- of "A", a line feed and "BC" one line is whole, and "BC" is kept
-one-whole : wholeLines (65 ∷ 10 ∷ 66 ∷ 67 ∷ []) ≡ (65 ∷ []) ∷ []
-unfolding wholeLen linesOf
-one-whole = refl
+one-finished : finishedLines (65 ∷ 10 ∷ 66 ∷ 67 ∷ []) ≡ (65 ∷ []) ∷ []
+unfolding finishedLen linesOf
+one-finished = refl
 
 two-kept : keptOf (65 ∷ 10 ∷ 66 ∷ 67 ∷ []) ≡ 66 ∷ 67 ∷ []
-unfolding wholeLen
+unfolding finishedLen
 two-kept = refl

@@ -1,3 +1,3 @@
-pub mod Whole
+pub mod Finished
 pub mod Blocks
 pub mod Examples

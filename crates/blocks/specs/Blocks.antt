@@ -14,23 +14,23 @@ lineMost = 80
 abbrev pub cut : List ℕ → List ℕ
 cut l = take (lineMost + 1) l
 
--- n bytes of whole lines behind the byte x, and x, if there are any or x ends a line
-abbrev pub wholeWith : ℕ → ℕ → ℕ
-wholeWith x zero = cond (eqb x lineFeed) 1 0
-wholeWith x (suc n) = suc (suc n)
+-- n bytes of finished lines behind the byte x, and x, if there are any or x ends a line
+abbrev pub finishedWith : ℕ → ℕ → ℕ
+finishedWith x zero = cond (eqb x lineFeed) 1 0
+finishedWith x (suc n) = suc (suc n)
 
--- how many bytes the whole lines of a text have, with their line feeds
-unfoldable pub wholeLen : List ℕ → ℕ
-wholeLen [] = zero
-wholeLen (x ∷ xs) = wholeWith x (wholeLen xs)
+-- how many bytes the finished lines of a text have, with their line feeds
+unfoldable pub finishedLen : List ℕ → ℕ
+finishedLen [] = zero
+finishedLen (x ∷ xs) = finishedWith x (finishedLen xs)
 
--- the whole lines of a text
-abbrev pub wholeLines : List ℕ → List (List ℕ)
-wholeLines s = linesOf (take (wholeLen s) s)
+-- the finished lines of a text
+abbrev pub finishedLines : List ℕ → List (List ℕ)
+finishedLines s = linesOf (take (finishedLen s) s)
 
 -- its unfinished line, of no byte where the last is whole
 abbrev pub unfinished : List ℕ → List ℕ
-unfinished s = drop (wholeLen s) s
+unfinished s = drop (finishedLen s) s
 
 -- what is kept of that
 abbrev pub keptOf : List ℕ → List ℕ

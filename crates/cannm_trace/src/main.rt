@@ -8,42 +8,42 @@ use libc::STDOUT_FILENO;
 use trace::BLOCK_MOST;
 use trace::BLOCK_ROOM;
 use trace::Trace;
-ghost use Prim.Native.Nat.{_+_, _≤_};
-ghost use lib.ListN.{length};
-ghost use Rattle.trace.specs.Trace.{blockRoom};
 
 // ---- sizes
 
 // What is read at once, in many blocks, since a read takes far longer than a block.
 const INPUT: usize = 131072;
 
-// What is printed before it is written: more than a read often prints.
-const OUTPUT: usize = 524288;
+// What is printed before it is written: many blocks print as much. It has room for what one can print.
+const OUTPUT: usize = 131072;
 
 // ---- writing
-
-// Where the next text goes in the output, and whether all before it that was to be written is.
-struct Place {
-    at: usize,
-    ok: bool,
-}
 
 // The first n bytes of the output are written.
 fn written(out: &[u8], n: usize) -> bool {
     io::write_all(STDOUT_FILENO, slices::part(out, 0, n))
 }
 
-// A place with room for what a block prints, where the output is full up to another; it must have that room.
-fn with_room(out: &[u8], at: usize) -> Place
-    requires { ⌜ blockRoom ≤ length (now out) ⌝ }
-    ensures { λ r. ⌜ r .at + blockRoom ≤ length (now (out .entry)) ⌝ }
-{
-    if at <= out.len() - BLOCK_ROOM {
-        return Place { at: at, ok: true };
+// How many bytes of the output hold text that is still to be written, and whether every write so far succeeded.
+struct Held {
+    n: usize,
+    ok: bool,
+}
+
+// Text behind the first n bytes of the output. Where it has no room there, these are written first.
+fn append(out: &mut [u8; OUTPUT], n: usize, text: &[u8]) -> Held {
+    if slices::part(out, n, text.len()).len() == text.len() {
+        slices::put_part(out, n, text);
+        return Held {
+            n: n + text.len(),
+            ok: true,
+        };
     }
-    Place {
-        at: 0,
-        ok: written(out, at),
+    let ok = written(out, n);
+    slices::copy(text, out);
+    Held {
+        n: text.len(),
+        ok: ok,
     }
 }
 
@@ -55,20 +55,27 @@ struct State {
     more: bool,
 }
 
-// What was read, block by block, and all that it prints is written. No input is so long that a block is refused; should one
-// be, nothing more is printed: what the lines behind it would have said is not known.
-fn blocks(trace: Trace, text: &[u8], out: &mut [u8; OUTPUT]) -> State {
+// What was read, block by block, and all that it prints is written. After a write that fails, nothing more is written. No input
+// is so long that a block is refused; should one be, nothing more is printed: what the lines behind it would have said is not
+// known.
+fn blocks(trace: Trace, text: &[u8], page: &mut [u8; BLOCK_ROOM], out: &mut [u8; OUTPUT]) -> State {
     let mut now = trace;
     let mut ok = true;
-    let mut put: usize = 0;
+    let mut n: usize = 0;
     let mut at: usize = 0;
     while at < text.len() {
-        let p = with_room(out, put);
-        let r = trace::block_at(now, slices::part(text, at, BLOCK_MOST), out, p.at);
+        let r = trace::block(now, slices::part(text, at, BLOCK_MOST), page);
         let answer = r.answer;
         now = r.trace;
-        put = r.at;
-        ok = p.ok & refusals::is_done(answer);
+        let held = append(out, n, slices::part(page, 0, r.at));
+        if !held.ok {
+            return State {
+                trace: now,
+                more: false,
+            };
+        }
+        n = held.n;
+        ok = refusals::is_done(answer);
         if !ok {
             break;
         }
@@ -76,21 +83,26 @@ fn blocks(trace: Trace, text: &[u8], out: &mut [u8; OUTPUT]) -> State {
     }
     State {
         trace: now,
-        more: ok & written(out, put),
+        more: ok & written(out, n),
     }
 }
 
 // The end of the input.
-fn end(trace: Trace, out: &mut [u8; OUTPUT]) {
-    let r = trace::end_at(trace, out, 0);
-    written(out, r.at);
+fn end(trace: Trace, page: &mut [u8; BLOCK_ROOM]) {
+    let r = trace::end(trace, page);
+    written(page, r.at);
 }
 
 // ---- the loop
 
 // One read, and what it brings. After a write that fails, nothing more is read. After a read that fails, nothing more is
 // printed: what the unfinished line would have said is not known.
-fn turn(trace: Trace, buf: &mut [u8; INPUT], out: &mut [u8; OUTPUT]) -> State {
+fn turn(
+    trace: Trace,
+    buf: &mut [u8; INPUT],
+    page: &mut [u8; BLOCK_ROOM],
+    out: &mut [u8; OUTPUT],
+) -> State {
     let got = libc::read(STDIN_FILENO, buf);
     if got < 0 {
         return State {
@@ -99,25 +111,25 @@ fn turn(trace: Trace, buf: &mut [u8; INPUT], out: &mut [u8; OUTPUT]) -> State {
         };
     }
     if got == 0 {
-        end(trace, out);
+        end(trace, page);
         return State {
             trace: trace,
             more: false,
         };
     }
     let n = io::count(got, buf);
-    blocks(trace, slices::part(buf, 0, n), out)
+    blocks(trace, slices::part(buf, 0, n), page, out)
 }
 
 // The turns are counted only so that the loop is seen to end: there are more than any input has bytes.
-fn run_all(buf: &mut [u8; INPUT], out: &mut [u8; OUTPUT]) {
+fn run_all(buf: &mut [u8; INPUT], page: &mut [u8; BLOCK_ROOM], out: &mut [u8; OUTPUT]) {
     let mut st = State {
         trace: trace::start(),
         more: true,
     };
     let mut turns = 18446744073709551615u64;
     while 0 < turns {
-        st = turn(st.trace, buf, out);
+        st = turn(st.trace, buf, page, out);
         if !st.more {
             break;
         }
@@ -127,6 +139,7 @@ fn run_all(buf: &mut [u8; INPUT], out: &mut [u8; OUTPUT]) {
 
 fn main() {
     let mut buf = [0u8; INPUT];
+    let mut page = [0u8; BLOCK_ROOM];
     let mut out = [0u8; OUTPUT];
-    run_all(&mut buf, &mut out);
+    run_all(&mut buf, &mut page, &mut out);
 }

@@ -92,8 +92,8 @@ fn called(
     }
 }
 
-// A line behind the configuration and n lines in all; one that can't be read changes nothing. `ok` says whether the channel is sound, and there
-// must be room for the longest line.
+// A line behind the configuration and n lines in all; one that can't be read changes nothing. `ok` says whether the channel
+// is sound, and there must be room for the longest line.
 pub fn later_line_in_place(
     ok: bool,
     c: Config,

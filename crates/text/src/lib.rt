@@ -1,7 +1,7 @@
 // A text in a lent slice, a line at a time.
 //
-// Promises: the place of any byte and of every line, for any text and any place, and how many lines there are. Leaves to others: what a line says
-// (`fields`), and a text that is read in blocks (`blocks`).
+// Promises: the place of any byte and of every line, for any text and any place, and how many lines there are. Leaves to
+// others: what a line says (`fields`), and a text that is read in blocks (`blocks`).
 ghost use mathlib.Core.Path.{_≡_};
 ghost use Prim.Native.Nat.{_+_};
 ghost use lib.ListN.{length, drop};

@@ -2,21 +2,20 @@
 use mathlib.Core.Path.{_≡_}
 use mathlib.Core.Bool.{Bool, _&&_, cond}
 use mathlib.Core.List.{List, [], _++_}
-use Prim.Native.Nat.{ℕ, _+_, _*_}
+use Prim.Native.Nat.{ℕ, _+_}
 use lib.Dec.{leb}
 use lib.ListN.{length, replicate, take}
 use lib.Seq.{sets}
 use Rattle.answers.specs.declared.Answer.{Answer}
 use Rattle.answers.specs.declared.Answer.the-variants.{Done, Length}
 use Rattle.config_line.specs.ConfigLine.{readConfig}
-use Rattle.print.specs.Print.{Wrote}
 use Rattle.text.specs.Lines.{linesOf}
-use Rattle.blocks.specs.Blocks.{keptOf, lineMost, linesFit, wholeLines}
+use Rattle.blocks.specs.Blocks.{finishedLines, keptOf, lineMost, linesFit}
 use Rattle.runs.specs.declared.Phase.the-variants.{First}
 use Rattle.runs.specs.declared.Run.{Run}
 use Rattle.runs.specs.Runs.{Outcome}
 use Rattle.config_lines.specs.ConfigLines.{holding}
-use Rattle.trace_line.specs.TraceLine.{andThen, ending, room}
+use Rattle.trace_line.specs.TraceLine.{andThen, ending}
 use Rattle.call_lines.specs.CallLines.{linesFrom}
 use Rattle.trace.specs.declared.BlockReply.{BlockReply}
 use Rattle.trace.specs.declared.Trace.{Trace}
@@ -63,11 +62,7 @@ start = keeping firstRun []
 abbrev pub blockMost : ℕ
 blockMost = 512
 
--- room for what a block prints: of what was kept and the block, each line has a byte at least
-abbrev pub blockRoom : ℕ
-blockRoom = room * (keptMost + blockMost)
-
--- the answer, what stands between this block and the next, and the text that is printed
+-- the answer, the trace behind the block, and the text that is printed
 pub record BlockOutcome : Type 0 where
   pub answer : Answer
   pub trace : Trace
@@ -77,9 +72,12 @@ pub record BlockOutcome : Type 0 where
 unfoldable pub isTaken : Trace → List ℕ → Bool
 isTaken t b = leb (length b) blockMost && linesFit (t .run .lines) (keptIn t ++ b)
 
+-- a block that is taken, by its text: the finished lines are run, and of the unfinished one the start is kept
 abbrev pub taken : Run → List ℕ → BlockOutcome
-taken run s = record { answer = Done; trace = keeping (linesFrom run (wholeLines s) .run) (keptOf s); text = linesFrom run (wholeLines s) .text }
+taken run s =
+    record { answer = Done; trace = keeping (linesFrom run (finishedLines s) .run) (keptOf s); text = linesFrom run (finishedLines s) .text }
 
+-- a block that is refused prints nothing and leaves the trace as it was
 abbrev pub refused : Trace → BlockOutcome
 refused t = record { answer = Length; trace = t; text = [] }
 
@@ -87,15 +85,14 @@ refused t = record { answer = Length; trace = t; text = [] }
 unfoldable pub blockOf : Trace → List ℕ → BlockOutcome
 blockOf t b = cond (isTaken t b) (taken (t .run) (keptIn t ++ b)) (refused t)
 
--- a reply has that answer and that trace, and that text stands in the list l from place i on, which makes the list m
-pub record GivesBlock (o : BlockOutcome) (l : List ℕ) (i : ℕ) (m : List ℕ) (r : BlockReply) : Type 0 where
-  pub answer : r .answer ≡ o .answer
-  pub trace : r .trace ≡ o .trace
-  pub text : Wrote l i (o .text) m (r .at)
+-- the reply that tells an outcome, whose text ends before place `at` of the lent buffer
+abbrev pub replyOf : BlockOutcome → BlockReply
+replyOf o = record { answer = o .answer; trace = o .trace; at = length (o .text) }
 
--- what answers a block that is refused, where the text printed so far ends at a place
-abbrev pub refusedAt : Trace → ℕ → BlockReply
-refusedAt t at = record { answer = Length; trace = t; at = at }
+-- that reply is given, and the text stands at the start of the list l, which makes the list m
+pub record GivesBlock (o : BlockOutcome) (l m : List ℕ) (r : BlockReply) : Type 0 where
+  pub reply : r ≡ replyOf o
+  pub list : m ≡ sets l 0 (o .text)
 
 -- ---- the end of the input
 

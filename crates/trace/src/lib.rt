@@ -19,17 +19,17 @@ ghost use Rattle.text.specs.Lines.{linesOf};
 ghost use Rattle.runs.specs.Runs.{Gives};
 ghost use Rattle.trace_line.specs.TraceLine.{room};
 ghost use Rattle.call_lines.specs.CallLines.{linesFrom};
-ghost use Rattle.trace.specs.Trace.{GivesBlock, blockOf, blockRoom, ended, firstRun, keeping, refusedAt, start, taken, wholeFrom};
+ghost use Rattle.trace.specs.Trace.{GivesBlock, blockOf, ended, firstRun, keeping, refused, replyOf, start, taken, whole, wholeFrom};
 
 // ---- the lines of a text
 
-// The lines of a text, printed from a place of the buffer on. There must be room for what each prints.
-fn lines(run: Run, text: &[u8], out: &mut [u8], begin: usize) -> Step
-    requires { ⌜ begin + room * length (now text) ≤ length (now out) ⌝ }
-    ensures { λ r. ⌜ Gives (linesFrom run (linesOf (now (text .entry)))) (now (out .entry)) begin (now (out .exit)) r ⌝ }
+// The lines of a text, printed at the start of the buffer. There must be room for what each prints.
+fn lines(run: Run, text: &[u8], out: &mut [u8]) -> Step
+    requires { ⌜ room * length (now text) ≤ length (now out) ⌝ }
+    ensures { λ r. ⌜ Gives (linesFrom run (linesOf (now (text .entry)))) (now (out .entry)) 0 (now (out .exit)) r ⌝ }
 {
     let mut now = run;
-    let mut put = begin;
+    let mut put: usize = 0;
     let mut at = 0;
     loop {
         let phase = now.phase;
@@ -50,14 +50,30 @@ fn lines(run: Run, text: &[u8], out: &mut [u8], begin: usize) -> Step
     }
 }
 
-// A text from a run on, up to the end of the input, printed from a place of the buffer on. There must be room for what each
-// line prints, and for a line behind them.
-pub fn whole_from(run: Run, text: &[u8], out: &mut [u8], at: usize) -> Step
-    requires { ⌜ at + room * (length (now text) + 1) ≤ length (now out) ⌝ }
-    ensures { λ r. ⌜ Gives (wholeFrom run (now (text .entry))) (now (out .entry)) at (now (out .exit)) r ⌝ }
+// A text from a run on, up to the end of the input. There must be room for what each line prints, and for a line behind them.
+fn whole_from(run: Run, text: &[u8], out: &mut [u8]) -> Step
+    requires { ⌜ room * (length (now text) + 1) ≤ length (now out) ⌝ }
+    ensures { λ r. ⌜ Gives (wholeFrom run (now (text .entry))) (now (out .entry)) 0 (now (out .exit)) r ⌝ }
 {
-    let s = lines(run, text, out, at);
+    let s = lines(run, text, out);
     trace_line::finish(s.run, out, s.at)
+}
+
+// The run before the first line.
+fn first_run() -> Run
+    ensures { λ r. ⌜ r ≡ firstRun ⌝ }
+{
+    let s = config_line::read_config(b"");
+    config_lines::holding(Phase::First, 0, s.config)
+}
+
+// The text of a trace, all of it at once, for our own programs. There must be room for what each line prints, and for a line
+// behind them.
+pub fn whole(text: &[u8], out: &mut [u8]) -> Step
+    requires { ⌜ room * (length (now text) + 1) ≤ length (now out) ⌝ }
+    ensures { λ r. ⌜ Gives (whole (now (text .entry))) (now (out .entry)) 0 (now (out .exit)) r ⌝ }
+{
+    whole_from(first_run(), text, out)
 }
 
 // ---- between two blocks
@@ -65,7 +81,7 @@ pub fn whole_from(run: Run, text: &[u8], out: &mut [u8], at: usize) -> Step
 // Room for what is kept of an unfinished line: with one byte more than it may have it is known to be too long.
 const KEPT_MOST: usize = LINE_MOST + 1;
 
-// A trace between two blocks: the run up to the last whole line, and what is carried along of the unfinished one, which are
+// A trace between two blocks: the run up to the last finished line, and what is carried along of the unfinished one, which are
 // the first `kept` bytes of `line`.
 pub struct Trace {
     pub run: Run,
@@ -86,12 +102,11 @@ fn keeping(run: Run, bytes: &[u8]) -> Trace
     }
 }
 
-// The run before the first line.
-fn first_run() -> Run
-    ensures { λ r. ⌜ r ≡ firstRun ⌝ }
+// Before the first block.
+pub fn start() -> Trace
+    ensures { λ r. ⌜ r ≡ start ⌝ }
 {
-    let s = config_line::read_config(b"");
-    config_lines::holding(Phase::First, 0, s.config)
+    keeping(first_run(), b"")
 }
 
 // ---- a block
@@ -105,14 +120,14 @@ const TEXT_MOST: usize = KEPT_MOST + BLOCK_MOST;
 // Room for what a block prints, since each of its lines has a byte at least. The end of the input prints less.
 pub const BLOCK_ROOM: usize = trace_line::ROOM * TEXT_MOST;
 
-// The answer to a block, the trace behind it, and the place behind what is printed so far.
+// The answer to a block, the trace behind it, and how many bytes it printed.
 pub struct BlockReply {
     pub answer: Answer,
     pub trace: Trace,
     pub at: usize,
 }
 
-// What was kept, and a block behind it, in front of a buffer, as far as there is room. Answers how many bytes they are.
+// What was kept, and a block behind it, at the start of a buffer, as far as there is room. Answers how many bytes they are.
 fn put_text(line: &[u8], kept: usize, block: &[u8], text: &mut [u8]) -> usize
     ensures { λ r. ⌜ filled r (now (text .exit)) ≡ fill (now (text .entry)) (take kept (now (line .entry)) ++ now (block .entry)) ⌝ }
 {
@@ -122,14 +137,14 @@ fn put_text(line: &[u8], kept: usize, block: &[u8], text: &mut [u8]) -> usize
     before.len() + block.len()
 }
 
-// A block that is taken, by its text: its whole lines are run and printed, and what is needed of the unfinished line is kept.
+// A block that is taken, by its text: its finished lines are run and printed, and what is needed of the unfinished line is kept.
 // There must be room for what each line prints.
-fn taken(run: Run, text: &[u8], out: &mut [u8], at: usize) -> BlockReply
-    requires { ⌜ at + room * length (now text) ≤ length (now out) ⌝ }
-    ensures { λ r. ⌜ GivesBlock (taken run (now (text .entry))) (now (out .entry)) at (now (out .exit)) r ⌝ }
+fn taken(run: Run, text: &[u8], out: &mut [u8]) -> BlockReply
+    requires { ⌜ room * length (now text) ≤ length (now out) ⌝ }
+    ensures { λ r. ⌜ GivesBlock (taken run (now (text .entry))) (now (out .entry)) (now (out .exit)) r ⌝ }
 {
-    let end = blocks::whole_len(text);
-    let s = lines(run, slices::part(text, 0, end), out, at);
+    let end = blocks::finished_len(text);
+    let s = lines(run, slices::part(text, 0, end), out);
     let trace = keeping(s.run, slices::part(text, end, KEPT_MOST));
     BlockReply {
         answer: Answer::Done,
@@ -139,63 +154,42 @@ fn taken(run: Run, text: &[u8], out: &mut [u8], at: usize) -> BlockReply
 }
 
 // A block that is refused leaves all as it was.
-fn refused(trace: Trace, at: usize) -> BlockReply
-    ensures { λ r. ⌜ r ≡ refusedAt trace at ⌝ }
+fn refused(trace: Trace) -> BlockReply
+    ensures { λ r. ⌜ r ≡ replyOf (refused trace) ⌝ }
 {
     BlockReply {
         answer: Answer::Length,
         trace: trace,
-        at: at,
+        at: 0,
     }
 }
 
-// A block, printed from a place of the buffer on. There must be room for what a block can print.
-pub fn block_at(trace: Trace, block: &[u8], out: &mut [u8], at: usize) -> BlockReply
-    requires { ⌜ at + blockRoom ≤ length (now out) ⌝ }
-    ensures { λ r. ⌜ GivesBlock (blockOf trace (now (block .entry))) (now (out .entry)) at (now (out .exit)) r ⌝ }
+// The next block of the text, which may end inside a line: its finished lines are run and printed at the start of the buffer. One
+// of more than 512 bytes, or one that would bring the lines, an unfinished one counted, past the largest number of a line, is
+// refused.
+pub fn block(trace: Trace, block: &[u8], out: &mut [u8; BLOCK_ROOM]) -> BlockReply
+    ensures { λ r. ⌜ GivesBlock (blockOf trace (now (block .entry))) (now (out .entry)) (now (out .exit)) r ⌝ }
 {
     if BLOCK_MOST < block.len() {
-        return refused(trace, at);
+        return refused(trace);
     }
     let line = trace.line;
     let mut buf = [0u8; TEXT_MOST];
     let n = put_text(&line, trace.kept, block, &mut buf);
     let text = slices::part(&buf, 0, n);
     if blocks::lines_fit(trace.run.lines, text) {
-        return taken(trace.run, text, out, at);
+        return taken(trace.run, text, out);
     }
-    refused(trace, at)
+    refused(trace)
 }
 
-// The end of the input, printed from a place of the buffer on. There must be room for what a block can print.
-pub fn end_at(trace: Trace, out: &mut [u8], at: usize) -> Step
-    requires { ⌜ at + blockRoom ≤ length (now out) ⌝ }
-    ensures { λ r. ⌜ Gives (ended trace) (now (out .entry)) at (now (out .exit)) r ⌝ }
-{
-    let line = trace.line;
-    whole_from(trace.run, slices::part(&line, 0, trace.kept), out, at)
-}
+// ---- the end of the input
 
-// ---- a trace in blocks
-
-// Before the first block.
-pub fn start() -> Trace
-    ensures { λ r. ⌜ r ≡ start ⌝ }
-{
-    keeping(first_run(), b"")
-}
-
-// The next block of the text, which may end inside a line: its whole lines are run and printed. One of more than 512 bytes, or
-// one that would bring the lines, an unfinished one counted, past the largest number of a line, is refused.
-pub fn block(trace: Trace, block: &[u8], out: &mut [u8; BLOCK_ROOM]) -> BlockReply
-    ensures { λ r. ⌜ GivesBlock (blockOf trace (now (block .entry))) (now (out .entry)) 0 (now (out .exit)) r ⌝ }
-{
-    block_at(trace, block, out, 0)
-}
-
-// The end of the input: the unfinished line is the last, and a configuration that waits for line 2 is judged.
+// The unfinished line is the last, and a configuration that waits for line 2 is judged. What both print stands at the start of
+// the buffer.
 pub fn end(trace: Trace, out: &mut [u8; BLOCK_ROOM]) -> Step
     ensures { λ r. ⌜ Gives (ended trace) (now (out .entry)) 0 (now (out .exit)) r ⌝ }
 {
-    end_at(trace, out, 0)
+    let line = trace.line;
+    whole_from(trace.run, slices::part(&line, 0, trace.kept), out)
 }

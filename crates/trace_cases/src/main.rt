@@ -89,8 +89,7 @@ fn read_named(name: &[u8], ending: &[u8], buf: &mut [u8]) -> Got {
 fn passes(text: &[u8; FILE_MOST], n: usize, stored: &[u8], out: &mut [u8; OUTPUT]) -> bool
     ensures { λ r. ⌜ (r ≡ true → printed (take n (now (text .entry))) ≡ now (stored .entry)) × (printed (take n (now (text .entry))) ≡ now (stored .entry) → r ≡ true) ⌝ }
 {
-    let start = trace::start();
-    let s = trace::whole_from(start.run, slices::part(text, 0, n), out, 0);
+    let s = trace::whole(slices::part(text, 0, n), out);
     check::same(slices::part(out, 0, s.at), stored)
 }
 

@@ -1,4 +1,4 @@
--- A trace in blocks: what stands between two of them, which are taken, and what they come to. Assumes nothing.
+-- A trace in blocks: what is between two of them, which are taken, and what they come to. Assumes nothing.
 use mathlib.Core.Path.{_≡_, refl, sym, ap, subst, _∙_}
 use mathlib.Core.Bool.{Bool, true, false, false≢true, _&&_, cond}
 use mathlib.Core.List.{List, [], _∷_, _++_, append-assoc, append-nil}
@@ -11,22 +11,22 @@ use Rattle.answers.specs.declared.Answer.the-variants.{Done, Length}
 use Rattle.text.specs.Lines.{linesOf}
 use Rattle.text.proofs.Filled.{filled-front}
 use Rattle.text.proofs.Lines.{lines-grow}
-use Rattle.blocks.specs.Blocks.{cut, keptOf, linesMost, wholeLen, wholeLines}
+use Rattle.blocks.specs.Blocks.{cut, finishedLen, finishedLines, keptOf, linesMost}
 use Rattle.blocks.specs.Runs.{after, outs}
-use Rattle.blocks.proofs.Whole.{kept-short}
+use Rattle.blocks.proofs.Finished.{kept-short}
 use Rattle.blocks.proofs.Blocks.{after-end, after-more, count-more, kept-more, outs-end, outs-more}
 use Rattle.runs.specs.declared.Run.{Run}
-use Rattle.runs.specs.Runs.{Outcome}
+use Rattle.runs.specs.Runs.{Outcome, outcome}
 use Rattle.config_lines.specs.ConfigLines.{holding}
 use Rattle.trace_line.specs.TraceLine.{ending, stepOf, textOf}
 use Rattle.call_lines.specs.CallLines.{linesFrom}
 use Rattle.trace.specs.declared.Trace.{Trace}
 use Rattle.trace.specs.Trace.{BlockOutcome, blockMost, blockOf, ended, firstRun, isTaken, keeping, keptIn, keptMost, refused, start, taken, whole, wholeFrom}
-use Rattle.trace_claims.specs.Claims.{AllShort, EveryBlockIsJudged, EveryCutIsTheWhole, EveryTraceIsOfItsText, EveryTextIsTaken, behind, fits, joined, overBlocks, takenBehind, takenText}
+use Rattle.trace_claims.specs.Claims.{AllShort, EveryBlockIsJudged, EveryCutIsOfItsText, EveryCutIsTheWhole, EveryTextIsTaken, Progress, afterBlocks, afterText, fits, joined, takenBehind, takenText}
 use Rattle.trace_claims.proofs.Counted.{after-lines}
 use Rattle.trace_claims.proofs.Cut.{line-cut}
 
--- ---- what stands between two blocks
+-- ---- a trace between two blocks
 
 -- a run looks at no more than the start of a line
 enough : (run : Run) (l : List ℕ) → stepOf run (cut l) ≡ stepOf run l
@@ -35,15 +35,22 @@ enough run l = ap (λ (o : Outcome). o .run) (line-cut run l)
 enough-text : (run : Run) (l : List ℕ) → textOf run (cut l) ≡ textOf run l
 enough-text run l = ap (λ (o : Outcome). o .text) (line-cut run l)
 
--- the run after the whole lines of a text, and what they print
+-- the run after the finished lines of a text, and what they print
 abbrev runBehind : List ℕ → Run
-runBehind s = after stepOf firstRun (wholeLines s)
+runBehind s = after stepOf firstRun (finishedLines s)
 
 abbrev printedBehind : List ℕ → List ℕ
-printedBehind s = outs stepOf textOf firstRun (wholeLines s)
+printedBehind s = outs stepOf textOf firstRun (finishedLines s)
 
 abbrev traceBehind : List ℕ → Trace
 traceBehind s = keeping (runBehind s) (keptOf s)
+
+abbrev behind : List ℕ → Progress
+behind s = record { trace = traceBehind s; text = printedBehind s }
+
+behind-is : (s : List ℕ) → afterText s ≡ behind s
+unfolding linesFrom
+behind-is s = refl
 
 -- what is kept is found again
 kept-in : (run : Run) (k : List ℕ) → length k ≤ keptMost → keptIn (keeping run k) ≡ k
@@ -59,19 +66,23 @@ run-in s = refl
 
 -- before the first block
 start-is : start ≡ traceBehind []
-unfolding start after wholeLen linesOf
+unfolding start after finishedLen linesOf
 start-is = refl
 
 -- the lines of a text can be counted
 abbrev Countable : List ℕ → Type 0
 Countable s = length (linesOf s) ≤ linesMost
 
-whole-count : (s : List ℕ) → length (wholeLines s) ≤ length (linesOf s)
-whole-count s = let e = rw (append-nil, append-nil) at (count-more s []) in omega (arith, e)
+none : Countable []
+unfolding linesOf
+none = omega arith
 
-lines-behind : (s : List ℕ) → Countable s → runBehind s .lines ≡ length (wholeLines s)
+finished-count : (s : List ℕ) → length (finishedLines s) ≤ length (linesOf s)
+finished-count s = let e = rw (append-nil, append-nil) at (count-more s []) in omega (arith, e)
+
+lines-behind : (s : List ℕ) → Countable s → runBehind s .lines ≡ length (finishedLines s)
 unfolding firstRun holding
-lines-behind s h = after-lines firstRun (wholeLines s) (omega (arith, whole-count s)) ∙ omega arith
+lines-behind s h = after-lines firstRun (finishedLines s) (omega (arith, finished-count s)) ∙ omega arith
 
 -- ---- one block
 
@@ -82,7 +93,7 @@ module _ (s b : List ℕ) (h : Countable s) where
 
   -- a block that is taken is a block of the text
   abbrev next : BlockOutcome
-  next = record { answer = Done; trace = traceBehind (s ++ b); text = outs stepOf textOf (runBehind s) (wholeLines (keptOf s ++ b)) }
+  next = record { answer = Done; trace = traceBehind (s ++ b); text = outs stepOf textOf (runBehind s) (finishedLines (keptOf s ++ b)) }
 
   taken-is : taken (runBehind s) (keptIn (traceBehind s) ++ b) ≡ next
   unfolding linesFrom
@@ -116,57 +127,56 @@ countable-behind s [] h = h
 countable-behind s (b ∷ bs) h =
     either-fits s b h (λ (o : BlockOutcome) (u : List ℕ). Countable (takenBehind u bs)) (λ i. countable-behind (s ++ b) bs i) (countable-behind s bs h)
 
-behind-is : (s : List ℕ) (bs : List (List ℕ)) → Countable s → behind (traceBehind s) bs ≡ traceBehind (takenBehind s bs)
-unfolding behind takenBehind
-behind-is s [] h = refl
-behind-is s (b ∷ bs) h =
-    either-fits s b h (λ (o : BlockOutcome) (u : List ℕ). behind (o .trace) bs ≡ traceBehind (takenBehind u bs)) (λ i. behind-is (s ++ b) bs i) (behind-is s bs h)
+trace-is : (s : List ℕ) (bs : List (List ℕ)) → Countable s → afterBlocks (traceBehind s) bs .trace ≡ traceBehind (takenBehind s bs)
+unfolding afterBlocks takenBehind
+trace-is s [] h = refl
+trace-is s (b ∷ bs) h =
+    either-fits s b h (λ (o : BlockOutcome) (u : List ℕ). afterBlocks (o .trace) bs .trace ≡ traceBehind (takenBehind u bs))
+    (λ i. trace-is (s ++ b) bs i)
+    (trace-is s bs h)
+
+text-is : (s : List ℕ) (bs : List (List ℕ)) → Countable s → printedBehind s ++ afterBlocks (traceBehind s) bs .text ≡ printedBehind (takenBehind s bs)
+unfolding afterBlocks takenBehind
+text-is s [] h = append-nil (printedBehind s)
+text-is s (b ∷ bs) h =
+    let x = afterBlocks (traceBehind (s ++ b)) bs .text in
+    either-fits s b h
+    (λ (o : BlockOutcome) (u : List ℕ). printedBehind s ++ (o .text ++ afterBlocks (o .trace) bs .text) ≡ printedBehind (takenBehind u bs))
+    (λ i.
+    sym (append-assoc (printedBehind s) (next s b h .text) x) ∙ ap (λ (l : List ℕ). l ++ x) (outs-more stepOf enough textOf enough-text firstRun s b)
+    ∙ text-is (s ++ b) bs i)
+    (text-is s bs h)
+
+progress-is : (bs : List (List ℕ)) → afterBlocks start bs ≡ behind (takenText bs)
+unfolding outs finishedLen linesOf
+progress-is bs = ap (λ (t : Trace). afterBlocks t bs) start-is ∙ both (trace-is [] bs none) (text-is [] bs none)
+  where
+    both : {p q : Progress} → p .trace ≡ q .trace → p .text ≡ q .text → p ≡ q
+    both e f = λ i. record { trace = e i; text = f i }
 
 -- ---- the end of the input
 
-ended-run : (s : List ℕ) → ended (traceBehind s) .run ≡ whole s .run
-unfolding ended wholeFrom linesFrom
-ended-run s = rw (kept-behind s, run-in s, after-end stepOf enough firstRun s)
+-- the unfinished line and the end behind what the finished lines came to
+abbrev endedBehind : Progress → Outcome
+endedBehind p = outcome (ended (p .trace) .run) (p .text ++ ended (p .trace) .text)
 
-ended-text : (s : List ℕ) → printedBehind s ++ ended (traceBehind s) .text ≡ whole s .text
+ended-is : (s : List ℕ) → endedBehind (behind s) ≡ whole s
 unfolding ended wholeFrom linesFrom
-ended-text s =
+ended-is s =
+    let e = ending (after stepOf firstRun (linesOf s)) in
     rw (kept-behind s, run-in s, after-end stepOf enough firstRun s)
-    (sym (append-assoc (printedBehind s) (outs stepOf textOf (runBehind s) (linesOf (keptOf s))) (ending (after stepOf firstRun (linesOf s)) .text))
-    ∙ ap (λ (l : List ℕ). l ++ ending (after stepOf firstRun (linesOf s)) .text) (outs-end stepOf enough textOf enough-text firstRun s))
-
-over-run : (s : List ℕ) (bs : List (List ℕ)) → Countable s → overBlocks (traceBehind s) bs .run ≡ whole (takenBehind s bs) .run
-unfolding overBlocks takenBehind
-over-run s [] h = ended-run s
-over-run s (b ∷ bs) h =
-    either-fits s b h (λ (o : BlockOutcome) (u : List ℕ). overBlocks (o .trace) bs .run ≡ whole (takenBehind u bs) .run)
-    (λ i. over-run (s ++ b) bs i)
-    (over-run s bs h)
-
-over-text : (s : List ℕ) (bs : List (List ℕ)) → Countable s → printedBehind s ++ overBlocks (traceBehind s) bs .text ≡ whole (takenBehind s bs) .text
-unfolding overBlocks takenBehind
-over-text s [] h = ended-text s
-over-text s (b ∷ bs) h =
-    let x = overBlocks (traceBehind (s ++ b)) bs .text in
-    either-fits s b h
-    (λ (o : BlockOutcome) (u : List ℕ). printedBehind s ++ (o .text ++ overBlocks (o .trace) bs .text) ≡ whole (takenBehind u bs) .text)
-    (λ i.
-    sym (append-assoc (printedBehind s) (next s b h .text) x) ∙ ap (λ (l : List ℕ). l ++ x) (outs-more stepOf enough textOf enough-text firstRun s b)
-    ∙ over-text (s ++ b) bs i)
-    (over-text s bs h)
+    (ap (λ (l : List ℕ). outcome (e .run) l)
+    (sym (append-assoc (printedBehind s) (outs stepOf textOf (runBehind s) (linesOf (keptOf s))) (e .text))
+    ∙ ap (λ (l : List ℕ). l ++ e .text) (outs-end stepOf enough textOf enough-text firstRun s)))
 
 -- ---- the claims
 
-none : Countable []
-unfolding linesOf
-none = omega arith
-
-pub every-trace-is-of-its-text : EveryTraceIsOfItsText
-every-trace-is-of-its-text bs = ap (λ (f : Trace). behind f bs) start-is ∙ behind-is [] bs none
+pub every-cut-is-of-its-text : EveryCutIsOfItsText
+every-cut-is-of-its-text bs = progress-is bs ∙ sym (behind-is (takenText bs))
 
 pub every-block-is-judged : EveryBlockIsJudged
 every-block-is-judged bs b =
-    ap (λ (f : Trace). blockOf f b .answer) (every-trace-is-of-its-text bs)
+    ap (λ (p : Progress). blockOf (p .trace) b .answer) (progress-is bs)
     ∙ ap (λ (o : BlockOutcome). o .answer) (block-is s b h)
     ∙ by-fit (fits s b)
   where
@@ -181,12 +191,7 @@ every-block-is-judged bs b =
     by-fit false = refl
 
 pub every-cut-is-the-whole : EveryCutIsTheWhole
-unfolding outs linesOf wholeLen
-every-cut-is-the-whole bs =
-    ap (λ (f : Trace). overBlocks f bs) start-is ∙ both (over-run [] bs none) (over-text [] bs none)
-  where
-    both : {o p : Outcome} → o .run ≡ p .run → o .text ≡ p .text → o ≡ p
-    both e f = λ i. record { run = e i; text = f i }
+every-cut-is-the-whole bs = ap endedBehind (progress-is bs) ∙ ended-is (takenText bs)
 
 taken-all : (s : List ℕ) (bs : List (List ℕ)) → AllShort bs → Countable (s ++ joined bs) → takenBehind s bs ≡ s ++ joined bs
 unfolding takenBehind

@@ -4,13 +4,15 @@ use mathlib.Core.List.{List, [], _∷_}
 use Prim.Native.Nat.{ℕ}
 use native.Mathlib.Omega.{arith}
 use Rattle.sleep.proofs.Theorem.{every-channel-sleeps}
+use Rattle.blocks.specs.Blocks.{finishedLines}
 use Rattle.blocks.specs.Runs.{after}
 use Rattle.text.specs.Lines.{linesOf}
 use Rattle.runs.specs.declared.Run.{Run}
+use Rattle.runs.specs.Runs.{Outcome}
 use Rattle.config_lines.specs.ConfigLines.{holding}
 use Rattle.call_lines.specs.CallLines.{linesFrom}
-use Rattle.trace.specs.Trace.{firstRun, whole, wholeFrom}
-use Rattle.trace_claims.specs.Claims.{EveryBlockIsJudged, EveryCutIsTheWhole, EveryLineIsCut, EveryRunReaches, EveryTextInBlocks, EveryTextIsTaken, EveryTextReaches, EveryTraceIsOfItsText, Reaches, callsIn, configIn, linesBehind}
+use Rattle.trace.specs.Trace.{firstRun, keeping, whole, wholeFrom}
+use Rattle.trace_claims.specs.Claims.{EveryBlockIsJudged, EveryCutIsOfItsText, EveryCutIsTheWhole, EveryCutReaches, EveryLineIsCut, EveryRunReaches, EveryTextInBlocks, EveryTextIsTaken, EveryTextReaches, Reaches, callsIn, configIn, linesBehind, takenText}
 use Rattle.trace_claims.proofs.AtEnd.{end-reached}
 use Rattle.trace_claims.proofs.Blocks as blocks
 use Rattle.trace_claims.proofs.Cut.{line-cut}
@@ -36,14 +38,25 @@ every-text-reaches s h = reaches (linesOf s) (end-reached (linesOf s) h)
 pub every-line-is-cut : EveryLineIsCut
 every-line-is-cut = line-cut
 
-pub every-trace-is-of-its-text : EveryTraceIsOfItsText
-every-trace-is-of-its-text = blocks.every-trace-is-of-its-text
+pub every-cut-is-of-its-text : EveryCutIsOfItsText
+every-cut-is-of-its-text = blocks.every-cut-is-of-its-text
 
 pub every-block-is-judged : EveryBlockIsJudged
 every-block-is-judged = blocks.every-block-is-judged
 
 pub every-cut-is-the-whole : EveryCutIsTheWhole
 every-cut-is-the-whole = blocks.every-cut-is-the-whole
+
+pub every-cut-reaches : EveryCutReaches
+unfolding keeping linesFrom
+every-cut-reaches bs =
+    let s = takenText bs in
+    let p = every-cut-is-of-its-text bs in
+    let r = ap (λ (o : Outcome). o .run) (every-cut-is-the-whole bs) in
+    record {
+      between = λ h. rw p (every-run-reaches (finishedLines s) (rw p at h));
+      atEnd = λ h. rw r (every-text-reaches s (rw r at h));
+    }
 
 pub every-text-is-taken : EveryTextIsTaken
 every-text-is-taken = blocks.every-text-is-taken

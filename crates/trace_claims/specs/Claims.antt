@@ -14,7 +14,7 @@ use Rattle.decision.specs.Decision as calls
 use Rattle.config_line.specs.ConfigLine.{readConfig}
 use Rattle.pn_line.specs.PnLine.{isPartial, readPartial}
 use Rattle.sleep.specs.Sleep.{ChannelSleeps, reached}
-use Rattle.blocks.specs.Blocks.{cut, keptOf, linesMost, wholeLines}
+use Rattle.blocks.specs.Blocks.{cut, finishedLines, keptOf, linesMost}
 use Rattle.blocks.specs.Runs.{after}
 use Rattle.text.specs.Lines.{linesOf}
 use Rattle.dispatch.specs.Calls.{callFor}
@@ -24,7 +24,7 @@ use Rattle.runs.specs.Runs.{Outcome, outcome}
 use Rattle.replay.specs.Replay.{readingOf}
 use Rattle.trace_line.specs.TraceLine.{lineOf, stepOf}
 use Rattle.trace.specs.declared.Trace.{Trace}
-use Rattle.trace.specs.Trace.{blockMost, blockOf, ended, firstRun, keeping, start, whole}
+use Rattle.trace.specs.Trace.{blockMost, blockOf, ended, firstRun, start, taken, whole}
 use Rattle.config.specs.Ranges.{pduMost}
 
 -- ---- the calls of a trace
@@ -83,33 +83,54 @@ unfoldable pub takenBehind : List ℕ → List (List ℕ) → List ℕ
 takenBehind s [] = s
 takenBehind s (b ∷ bs) = takenBehind (cond (fits s b) (s ++ b) s) bs
 
+-- where nothing came before them
 abbrev pub takenText : List (List ℕ) → List ℕ
 takenText bs = takenBehind [] bs
 
--- what stands between two blocks, where blocks came before
-unfoldable pub behind : Trace → List (List ℕ) → Trace
-behind t [] = t
-behind t (b ∷ bs) = behind (blockOf t b .trace) bs
+-- a trace between two blocks, and all that was printed before
+pub record Progress : Type 0 where
+  pub trace : Trace
+  pub text : List ℕ
 
--- what blocks and the end of the input come to
-unfoldable pub overBlocks : Trace → List (List ℕ) → Outcome
-overBlocks t [] = ended t
-overBlocks t (b ∷ bs) = outcome (overBlocks (blockOf t b .trace) bs .run) (blockOf t b .text ++ overBlocks (blockOf t b .trace) bs .text)
+-- what blocks come to, one behind the other
+unfoldable pub afterBlocks : Trace → List (List ℕ) → Progress
+afterBlocks t [] = record { trace = t; text = [] }
+afterBlocks t (b ∷ bs) =
+    record { trace = afterBlocks (blockOf t b .trace) bs .trace; text = blockOf t b .text ++ afterBlocks (blockOf t b .trace) bs .text }
 
--- between two blocks there is what the text so far comes to: the run after its whole lines, and what is kept of the unfinished
--- one. So neither the cuts nor the blocks that were refused can be told from it
-abbrev pub EveryTraceIsOfItsText : Type 0
-EveryTraceIsOfItsText =
-    (bs : List (List ℕ)) → behind start bs ≡ keeping (after stepOf firstRun (wholeLines (takenText bs))) (keptOf (takenText bs))
+-- what a text comes to, as long as the input has not ended: what it would as one block, whatever its length. Its finished lines are
+-- run and printed, and of the unfinished one only the start is kept
+abbrev pub afterText : List ℕ → Progress
+afterText s = record { trace = taken firstRun s .trace; text = taken firstRun s .text }
+
+-- after any blocks there is what the text so far comes to. So each line is answered once, in the block that ends it, and neither
+-- the cuts nor the blocks that were refused can be told from the trace
+abbrev pub EveryCutIsOfItsText : Type 0
+EveryCutIsOfItsText = (bs : List (List ℕ)) → afterBlocks start bs ≡ afterText (takenText bs)
 
 -- a block is taken exactly if it fits behind the text so far
 abbrev pub EveryBlockIsJudged : Type 0
-EveryBlockIsJudged = (bs : List (List ℕ)) (b : List ℕ) → blockOf (behind start bs) b .answer ≡ cond (fits (takenText bs) b) Done Length
+EveryBlockIsJudged = (bs : List (List ℕ)) (b : List ℕ) → blockOf (afterBlocks start bs .trace) b .answer ≡ cond (fits (takenText bs) b) Done Length
+
+-- what blocks and the end of the input come to
+abbrev pub overBlocks : List (List ℕ) → Outcome
+overBlocks bs =
+    outcome (ended (afterBlocks start bs .trace) .run) (afterBlocks start bs .text ++ ended (afterBlocks start bs .trace) .text)
 
 -- however a trace is cut into blocks, it comes to what its text comes to as a whole: the run, its channel with it, and what is
 -- printed
 abbrev pub EveryCutIsTheWhole : Type 0
-EveryCutIsTheWhole = (bs : List (List ℕ)) → overBlocks start bs ≡ whole (takenText bs)
+EveryCutIsTheWhole = (bs : List (List ℕ)) → overBlocks bs ≡ whole (takenText bs)
+
+-- so what is proved of the channel of a text holds of it in blocks
+pub record BlocksReach (bs : List (List ℕ)) : Type 0 where
+  -- between two blocks: the calls are those of the finished lines so far
+  pub between : afterBlocks start bs .trace .run .phase ≡ Running → Reaches (finishedLines (takenText bs)) (afterBlocks start bs .trace .run)
+  -- at the end of the input: those of all lines
+  pub atEnd : overBlocks bs .run .phase ≡ Running → Reaches (linesOf (takenText bs)) (overBlocks bs .run)
+
+abbrev pub EveryCutReaches : Type 0
+EveryCutReaches = (bs : List (List ℕ)) → BlocksReach bs
 
 -- blocks one behind the other
 abbrev pub joined : List (List ℕ) → List ℕ
@@ -127,4 +148,4 @@ EveryTextIsTaken = (bs : List (List ℕ)) → AllShort bs → length (linesOf (j
 
 -- so the blocks come to what the text comes to at once
 abbrev pub EveryTextInBlocks : Type 0
-EveryTextInBlocks = (bs : List (List ℕ)) → AllShort bs → length (linesOf (joined bs)) ≤ linesMost → overBlocks start bs ≡ whole (joined bs)
+EveryTextInBlocks = (bs : List (List ℕ)) → AllShort bs → length (linesOf (joined bs)) ≤ linesMost → overBlocks bs ≡ whole (joined bs)

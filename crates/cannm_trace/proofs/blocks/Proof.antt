@@ -6,10 +6,16 @@ use Rattle.cannm_trace.proofs.blocks.Statement.{statement}
 use Rattle.cannm_trace.proofs.blocks.Tie as tie
 
 abbrev Inv-loop : tie.InvT-loop
-Inv-loop text out₀ now₀ ok₀ put₀ at₀ out now ok put at = Unit {0}
+Inv-loop text page₀ out₀ now₀ ok₀ n₀ at₀ page out now ok n at = Unit {0}
 
 abbrev μ-loop : tie.MeasureT-loop
-μ-loop text out₀ now₀ ok₀ put₀ at₀ out now ok put at = length text - at
+μ-loop text page₀ out₀ now₀ ok₀ n₀ at₀ page out now ok n at = length text - at
+
+-- a place inside the text, and a block behind it, fit
+add-at : tie.Need-add-at Inv-loop μ-loop
+add-at c =
+    let n = c .before .before .before .before .before .before .before .before in
+    omega (arith, n .before .before .before .before .before .before .before .before .good .1 .0)
 
 pub blocks-spec : {M : Type 1} → statement M
 blocks-spec =
@@ -18,11 +24,13 @@ blocks-spec =
     Inv-loop
     μ-loop
     (λ c. tt)
-    (λ c κs. omega arith)
     (λ c κs. tt)
-    (λ c κs. omega arith)
     (λ c κs. tt)
-    (λ c. omega (arith, c .before .before .before .before .before .before .before .before .before .before .before .before .before .good .1 .0))
+    (λ c κs. tt)
+    (λ c κs. tt)
+    (λ c. tt)
+    (λ c κs. tt)
+    add-at
     (λ c. omega arith)
     (λ c. tt)
     (λ c κs. tt)

@@ -4,10 +4,10 @@ use Rattle.cannm_trace.proofs.run_all.Statement.{statement}
 use Rattle.cannm_trace.proofs.run_all.Tie as tie
 
 abbrev Inv-loop : tie.InvT-loop
-Inv-loop buf₀ out₀ st₀ turns₀ buf out st turns = Unit {0}
+Inv-loop buf₀ page₀ out₀ st₀ turns₀ buf page out st turns = Unit {0}
 
 abbrev μ-loop : tie.MeasureT-loop
-μ-loop buf₀ out₀ st₀ turns₀ buf out st turns = turns
+μ-loop buf₀ page₀ out₀ st₀ turns₀ buf page out st turns = turns
 
 pub run-all-spec : {M : Type 1} → statement M
 run-all-spec =

@@ -15,13 +15,13 @@ use Rattle.trace.proofs.lines.Statement.{statement}
 use Rattle.trace.proofs.lines.Tie as tie
 
 abbrev Inv-loop : tie.InvT-loop
-Inv-loop text out₀ begin now₀ put₀ at₀ out now put at =
-    Going now₀ (linesOf text) out₀ begin out put now (linesOf (drop at text))
+Inv-loop text out₀ now₀ put₀ at₀ out now put at =
+    Going now₀ (linesOf text) out₀ 0 out put now (linesOf (drop at text))
     × (put + room * (length text - at) ≤ length out₀)
     × (length out ≡ length out₀)
 
 abbrev μ-loop : tie.MeasureT-loop
-μ-loop text out₀ begin now₀ put₀ at₀ out now put at = length text + 1 - at
+μ-loop text out₀ now₀ put₀ at₀ out now put at = length text + 1 - at
 
 -- what is known of the places of a line that was found
 facts : (c : tie.After-first Inv-loop μ-loop)

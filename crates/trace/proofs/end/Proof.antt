@@ -1,31 +1,22 @@
--- `trace::end_at` meets its contract. Assumes nothing.
+-- `trace::end` meets its contract. Assumes nothing.
 use mathlib.Core.Path.{_≡_}
 use native.Mathlib.Omega.{arith}
 use borrow.Author.Needs.{needs}
 use lib.ListN.{length, length-take}
 use Rattle.trace.specs.Trace.{ended, keptMost}
 use Rattle.trace.proofs.Text.{array-length}
-use Rattle.trace.proofs.end_at.Statement.{statement}
-use Rattle.trace.proofs.end_at.Tie as tie
+use Rattle.trace.proofs.end.Statement.{statement}
+use Rattle.trace.proofs.end.Tie as tie
 
 whole-from-requires : tie.Need-whole-from-requires
 whole-from-requires c κs =
-    let s = c .before .before .before .before .before in
+    let s = c .before .before .before .before in
     let n : length (s .args .trace .line) ≡ keptMost = array-length (s .args .trace .line) (s .good .0 .1 .1 .1 .0 .1 .0 .1) in
     rw (c .before .part .ensures, length-take) (omega arith)
 
 returns : tie.Need-returns
 unfolding ended
-returns c =
-    let w = c .before .before in
-    rw (w .before .before .part .ensures) at (w .whole-from .ensures)
+returns c = rw (c .before .before .part .ensures) at (c .whole-from .ensures)
 
-pub end-at-spec : {M : Type 1} → statement M
-end-at-spec =
-    tie.close
-    (tie.spec
-    (λ c. search needs)
-    (λ c κs. tt)
-    whole-from-requires
-    (λ c. search needs)
-    returns)
+pub end-spec : {M : Type 1} → statement M
+end-spec = tie.close (tie.spec (λ c. search needs) (λ c κs. tt) whole-from-requires returns)
