@@ -13,6 +13,8 @@ pub struct InBlocks {
     pub printed: u64,
     pub lines: u64,
     pub kept: u64,
+    pub end_at: u64,
+    pub end_lines: u64,
 }
 
 #[repr(C)]
@@ -131,11 +133,10 @@ fn all(
     w
 }
 
-// The end of the input: how many bytes are printed with it, and its text behind them.
-fn ended(trace: Trace, printed: usize, out: &mut [u8], page: &mut [u8; BLOCK_ROOM]) -> usize {
-    let s = trace::end(trace, page);
-    slices::put_part(out, printed, slices::part(page, 0, s.at));
-    added(printed, s.at)
+// How many bytes a page has, which is lent without its length.
+#[no_mangle]
+pub extern "C" fn test_trace_page() -> u64 {
+    BLOCK_ROOM as u64
 }
 
 #[no_mangle]
@@ -146,15 +147,26 @@ pub extern "C" fn test_trace_in_blocks(
     preset: u64,
     answers: &mut [u8],
     out: &mut [u8],
+    page: &mut [u8; BLOCK_ROOM],
 ) -> InBlocks {
-    let mut page = [0u8; BLOCK_ROOM];
-    let w = all(text, ends, preset_before, preset, answers, out, &mut page);
+    let mut scratch = [0u8; BLOCK_ROOM];
+    let w = all(
+        text,
+        ends,
+        preset_before,
+        preset,
+        answers,
+        out,
+        &mut scratch,
+    );
     let trace = w.trace;
-    let printed = ended(trace, w.printed, out, &mut page);
+    let s = trace::end(trace, page);
     InBlocks {
-        printed: printed as u64,
+        printed: w.printed as u64,
         lines: trace.run.lines,
         kept: trace.kept as u64,
+        end_at: s.at as u64,
+        end_lines: s.run.lines,
     }
 }
 

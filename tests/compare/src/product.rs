@@ -8,10 +8,10 @@ pub const WORDS: usize = 177;
 /// A whole channel.
 pub type Words = [u64; WORDS];
 
-/// How many bytes are lent for what one block of a trace prints.
+/// How many bytes are lent for what one block of a trace, or its end, prints.
 pub const PAGE: usize = 38_545;
 
-/// What one block of a trace prints, and the bytes behind it.
+/// What one block of a trace, or its end, prints, and the bytes behind it.
 pub type Page = [u8; PAGE];
 
 /// Before which block of a trace, counted from 0, the count of finished lines is set, and to what.
@@ -97,14 +97,17 @@ pub struct Shown {
     pub lowest: u32,
 }
 
-/// A whole trace in blocks: the bytes that were printed, whether they had room or not, and, before the end of
-/// the input, the finished lines and the bytes kept of the unfinished one.
+/// A whole trace in blocks: the bytes that the blocks printed, whether they had room or not, the finished lines
+/// and the bytes kept of the unfinished one; then, of the end of the input, where on the page its output ends,
+/// and the finished lines after it.
 #[repr(C)]
 #[derive(Clone, Copy, Debug, PartialEq, Eq)]
 pub struct InBlocks {
     pub printed: u64,
     pub lines: u64,
     pub kept: u64,
+    pub end_at: u64,
+    pub end_lines: u64,
 }
 
 /// One block of a trace: where on the page its output ends, and the counts after it.
@@ -205,6 +208,7 @@ pub mod raw {
         ) -> Shown;
 
         // libtrace_host.a
+        pub fn test_trace_page() -> u64;
         pub fn test_trace_in_blocks(
             text: *const u8,
             text_length: usize,
@@ -216,6 +220,7 @@ pub mod raw {
             answers_length: usize,
             out: *mut u8,
             out_length: usize,
+            page: *mut Page,
         ) -> InBlocks;
         pub fn test_trace_block(
             text: *const u8,
@@ -384,16 +389,26 @@ pub fn status(words: &Words, era: &mut [u8], eira: &mut [u8]) -> Shown {
     }
 }
 
-/// A trace in blocks, each ending before the byte that `ends` names, and then the end of the input.
+/// A page is lent without its length. Panics if the library takes another number of bytes for one than `PAGE`.
+fn check_page() {
+    // SAFETY: the function takes nothing.
+    let taken = unsafe { raw::test_trace_page() };
+    assert_eq!(taken, PAGE as u64, "the bytes of a page");
+}
+
+/// A trace in blocks, each ending before the byte that `ends` names, and then the end of the input, with a page
+/// for what that prints.
 pub fn trace_in_blocks(
     text: &[u8],
     ends: &[u64],
     preset: Preset,
     answers: &mut [u8],
     out: &mut [u8],
+    page: &mut Page,
 ) -> InBlocks {
-    // SAFETY: each pointer is lent with the length of its slice, and only the answers and the output, which do
-    // not overlap, are written.
+    check_page();
+    // SAFETY: each pointer but the last is lent with the length of its slice; the page has the length that the
+    // function takes it for. Only the answers, the output and the page, which do not overlap, are written.
     unsafe {
         raw::test_trace_in_blocks(
             text.as_ptr(),
@@ -406,6 +421,7 @@ pub fn trace_in_blocks(
             answers.len(),
             out.as_mut_ptr(),
             out.len(),
+            page,
         )
     }
 }
@@ -418,8 +434,9 @@ pub fn trace_block(
     block: &[u8],
     page: &mut Page,
 ) -> AfterBlock {
-    // SAFETY: each pointer but the last is lent with the length of its slice; the page has the one length that
-    // it can have, and it alone is written.
+    check_page();
+    // SAFETY: each pointer but the last is lent with the length of its slice; the page has the length that the
+    // function takes it for, and it alone is written.
     unsafe {
         raw::test_trace_block(
             text.as_ptr(),

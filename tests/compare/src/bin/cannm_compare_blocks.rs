@@ -1,10 +1,10 @@
-//! Compares the proved trace program, fed in blocks, with the plain second implementation: wherever the cuts
-//! fall, what is printed is what the whole text prints, and a block that is refused changes nothing.
+//! Compares the proved crate `trace`, through `trace_host`, with the plain second implementation: wherever the
+//! cuts fall, what is printed is what the whole text prints, and a block that is refused changes nothing.
 //!
-//! `cannm_compare_blocks [SEED]`, in the root of the repository or with the folder of the stored traces in
-//! `CANNM_TRACE_CASES`; the same seed always gives the same inputs. Prints how often each case was reached.
-//! Exit status 0: no difference, and every case reached; 1: otherwise, with the whole input of the first
-//! difference; 2: a bad argument.
+//! `cannm_compare_blocks [SEED]`, in the root of the repository or with the folder of the stored traces and of
+//! their list in `CANNM_TRACE_CASES`; the same seed always gives the same inputs. Prints how often each case was
+//! reached. Exit status 0: no difference, and every case reached; 1: otherwise, with the whole input of the
+//! first difference; 2: a bad argument.
 
 use cannm_compare::product::{self, AfterBlock, InBlocks, Page, Preset, PAGE};
 use cannm_compare::seed_word;
@@ -17,9 +17,10 @@ use std::path::{Path, PathBuf};
 use std::process::ExitCode;
 use std::{env, fs, io};
 
-/// The folder of the stored traces, unless `FOLDER_NAME` names another.
+/// The folder of the stored traces, unless `FOLDER_NAME` names another, and their list in it.
 const FOLDER: &str = "crates/trace_cases/data";
 const FOLDER_NAME: &str = "CANNM_TRACE_CASES";
+const LIST: &str = "names";
 
 /// Random traces that are cut at every place.
 const TRACES: usize = 500;
@@ -37,7 +38,7 @@ const REFUSAL_TRACES: usize = 400;
 const PAGES: usize = 6;
 /// Lengths of blocks that are too long.
 const OVERLONG: [usize; 8] = [513, 513, 513, 514, 600, 1_024, 5_000, 70_000];
-/// The lines that are still to come to the limit, at most, and the texts before that.
+/// The lines that are still to come to the limit, at most, and the texts before that of either kind.
 const MOST_SPARE: u64 = 600;
 const LIMIT_STARTS: usize = 64;
 /// Traces whose run has ended before more blocks come.
@@ -51,6 +52,10 @@ const UNUSED: u8 = 0xEE;
 const MOST_KEPT: usize = MAX_LINE + 1;
 /// The last number that a line can have, as it is printed before a tab.
 const LAST_NUMBER: &[u8] = b"18446744073709551615\t";
+
+/// The limits of a block in the order's own numbers: its bytes, and the lines with it.
+const ORDER_BYTES: usize = 512;
+const ORDER_LINES: u128 = 18_446_744_073_709_551_615;
 
 fn main() -> ExitCode {
     let Ok(seed) = seed_word("cannm_compare_blocks") else {
@@ -111,6 +116,7 @@ kinds! {
     CutAtEnd "cut: behind the last byte"
     CutBetween "cut: between two lines"
     CutAtFeed "cut: before a line feed"
+    CutAtReturn "cut: between a carriage return and a line feed"
     CutInLine "cut: inside a line"
     CutInLine1 "cut: inside line 1"
     CutInLine2 "cut: inside line 2, no PN line"
@@ -144,10 +150,19 @@ kinds! {
     BlockFull "block: 512 bytes"
     BlockNoFeed "block: 512 bytes without a line feed"
     BlockOverlong "block: more than 512 bytes, refused"
+    BlockSplit "block: more than 512 bytes, refused, and then the same bytes in two blocks"
+
+    InputNone "empty input: no block"
+    InputEmpty "empty input: empty blocks alone"
 
     KeptNone "at the end of the input: nothing kept"
     KeptSome "at the end of the input: up to 80 bytes kept"
     KeptMost "at the end of the input: 81 bytes kept"
+    EndWaits "at the end of the input: the configuration waits for line 2, answer 0"
+    EndWaitsRefused "at the end of the input: the configuration waits for line 2, answer 2"
+    EndAlone "at the end of the input: the configuration alone, its line unfinished"
+    EndLine2 "at the end of the input: line 2 unfinished, and line 1 printed with it"
+    EndCounted "at the end of the input: an unfinished line that is only counted"
 
     PageTaken "page: a block that prints"
     PageQuiet "page: a taken block that prints nothing"
@@ -170,6 +185,16 @@ kinds! {
     LimitLine1 "limit: at it or one line more, line 1 is unreadable"
     LimitPn "limit: at it or one line more, the PN line is unreadable"
     LimitPrinted "limit: the last number is printed"
+    LimitSmaller "limit: refused for its lines, then a part of it, taken below the limit"
+    LimitSmallerExact "limit: refused for its lines, then a part of it, taken at the limit"
+    LimitSecondExact "limit: taken at it, from line 2 on"
+    LimitSecondOpen "limit: taken at it, line 2 unfinished"
+    LimitSecondPast "limit: refused, one line more, from line 2 on"
+    LimitSecondNone "limit: no line left for line 2, line 1 printed at the end of the input"
+    LimitSecondCall "limit: line 2 near it, a call"
+    LimitSecondPn "limit: line 2 near it, a PN line that is right"
+    LimitSecondRefused "limit: line 2 near it, the configuration is refused"
+    LimitSecondBroken "limit: line 2 near it, a PN line that is unreadable"
 
     EndedRefused "after the run: the configuration is refused"
     EndedLine1 "after the run: line 1 is unreadable"
@@ -227,6 +252,65 @@ fn feeds_of(text: &[u8]) -> u64 {
 fn kept_of(text: &[u8]) -> u64 {
     let behind = text.rsplit(|byte| *byte == b'\n').next();
     behind.map_or(0, |line| line.len().min(MOST_KEPT)) as u64
+}
+
+/// The counts of a text none of whose blocks is refused: its finished lines, the bytes kept of the unfinished
+/// one, and the lines after the end of the input.
+fn counts_of(text: &[u8]) -> [u64; 3] {
+    let (feeds, kept) = (feeds_of(text), kept_of(text));
+    [feeds, kept, feeds + u64::from(kept > 0)]
+}
+
+/// The same counts of a run.
+fn counts_in(run: InBlocks) -> [u64; 3] {
+    [run.lines, run.kept, run.end_lines]
+}
+
+/// The answers to the blocks by the words of the order: 5 for one of too many bytes, or one that would bring the
+/// lines, an unfinished one counted, past the limit. What is refused adds nothing.
+fn answers_by_order(text: &[u8], ends: &[u64], preset: Preset) -> Vec<u8> {
+    let (mut start, mut finished, mut is_open) = (0, 0, false);
+    let mut answers = Vec::with_capacity(ends.len());
+    for (number, end) in (0..).zip(ends) {
+        if number == preset.before {
+            finished = preset.lines.into();
+        }
+        let block = &text[start..*end as usize];
+        start = *end as usize;
+        let feeds = u128::from(feeds_of(block));
+        let is_open_behind = block.last().map_or(is_open, |last| *last != b'\n');
+        let lines = finished + feeds + u128::from(is_open_behind);
+        if block.len() > ORDER_BYTES || lines > ORDER_LINES {
+            answers.push(WRONG_LENGTH);
+            continue;
+        }
+        answers.push(DONE);
+        finished += feeds;
+        is_open = is_open_behind;
+    }
+    answers
+}
+
+/// What a text prints, with the numbers that its lines have if the count was set behind so many of them.
+fn renumbered(whole: &[u8], finished: u64, set: u64) -> Vec<u8> {
+    let (finished, set) = (u128::from(finished), u128::from(set));
+    let mut out = Vec::with_capacity(whole.len());
+    for line in whole.split_inclusive(|byte| *byte == b'\n') {
+        let tab = line.iter().position(|byte| *byte == b'\t');
+        let (number, rest) = line.split_at(tab.expect("a printed line has a tab"));
+        let digits = std::str::from_utf8(number).ok();
+        let number: u128 = digits
+            .and_then(|digits| digits.parse().ok())
+            .expect("a printed line begins with a number");
+        let number = if number > finished {
+            set + (number - finished)
+        } else {
+            number
+        };
+        out.extend_from_slice(number.to_string().as_bytes());
+        out.extend_from_slice(rest);
+    }
+    out
 }
 
 /// Why a run ends before its input.
@@ -448,55 +532,95 @@ impl Work {
             _ => Kind::KeptSome,
         });
         let lines = fed.feed.lines();
+        let in_blocks = self.wanted.len();
         fed.feed.end(&mut self.wanted);
+        let (wanted, wanted_end) = self.wanted.split_at(in_blocks);
+        let end_at = wanted_end.len();
         let expected = InBlocks {
-            printed: self.wanted.len() as u64,
+            printed: in_blocks as u64,
             lines,
             kept: fed.kept as u64,
+            end_at: end_at as u64,
+            end_lines: fed.feed.lines(),
         };
 
         // nothing of an earlier run may be left in them
         self.answers.clear();
         self.answers.resize(self.ends.len(), UNUSED);
         self.out.clear();
-        self.out.resize(self.wanted.len() + BEHIND, UNUSED);
-        let (answers, out) = (&mut self.answers, &mut self.out);
-        let got = product::trace_in_blocks(text, &self.ends, preset, answers, out);
-        let (printed, behind) = self.out.split_at(self.wanted.len());
-        if expected == got
-            && self.wanted_answers == self.answers
-            && self.wanted == printed
-            && behind == [UNUSED; BEHIND]
+        self.out.resize(in_blocks + BEHIND, UNUSED);
+        self.page.copy_from_slice(&self.before[..]);
+        let (answers, out, page) = (&mut self.answers, &mut self.out, &mut self.page);
+        let got = product::trace_in_blocks(text, &self.ends, preset, answers, out, page);
+        let (printed, behind) = self.out.split_at(in_blocks);
+        let (end, unused) = self.page.split_at(end_at);
+        if expected != got
+            || self.wanted_answers != self.answers
+            || wanted != printed
+            || behind != [UNUSED; BEHIND]
+            || wanted_end != end
+            || unused != &self.before[end_at..]
         {
-            return Ok(expected);
+            let what = format!(
+                "expected {expected:?}\n  got      {got:?}\n  answers  {}\n  printed  {}\n  behind   {}\n  end      {}\n  behind   {}",
+                first_difference(&self.wanted_answers, &self.answers),
+                first_difference(wanted, printed),
+                first_difference(&[UNUSED; BEHIND], behind),
+                first_difference(wanted_end, end),
+                first_difference(&self.before[end_at..], unused),
+            );
+            return Err(self.told("test_trace_in_blocks", text, preset, &what));
         }
-        let what = format!(
-            "expected {expected:?}\n  got      {got:?}\n  answers  {}\n  printed  {}\n  behind   {}",
-            first_difference(&self.wanted_answers, &self.answers),
-            first_difference(&self.wanted, printed),
-            first_difference(&[UNUSED; BEHIND], behind),
-        );
-        Err(self.told("test_trace_in_blocks", text, preset, &what))
+        let by_order = answers_by_order(text, &self.ends, preset);
+        if self.answers != by_order {
+            let what = format!("answers  {}", first_difference(&by_order, &self.answers));
+            return Err(self.told("not the answers of the order", text, preset, &what));
+        }
+        Ok(expected)
     }
 
     /// A text of which no block is refused: whatever the blocks are, the whole text's output, and the counts of
     /// the whole text.
     fn cutting(&mut self, text: &[u8], whole: &[u8]) -> Result<(), String> {
-        let counts = self.compare(text, Preset::NEVER)?;
-        let expected = InBlocks {
-            printed: whole.len() as u64,
-            lines: feeds_of(text),
-            kept: kept_of(text),
-        };
+        let run = self.compare(text, Preset::NEVER)?;
+        let (expected, counts) = (counts_of(text), counts_in(run));
         let is_taken = self.wanted_answers.iter().all(|answer| *answer == DONE);
-        if is_taken && counts == expected && self.wanted == whole {
-            return Ok(());
+        if !is_taken || counts != expected || self.wanted != whole {
+            let what = format!(
+                "expected {expected:?}\n  got      {counts:?}\n  all taken: {is_taken}\n  printed  {}",
+                first_difference(whole, &self.wanted)
+            );
+            return Err(self.told("not as the whole text", text, Preset::NEVER, &what));
         }
-        let what = format!(
-            "expected {expected:?}\n  got      {counts:?}\n  all taken: {is_taken}\n  printed  {}",
-            first_difference(whole, &self.wanted)
-        );
-        Err(self.told("not as the whole text", text, Preset::NEVER, &what))
+        self.see_cutting(text, run);
+        Ok(())
+    }
+
+    /// Counts the cuts of a text none of whose blocks is refused, and its end.
+    fn see_cutting(&mut self, text: &[u8], run: InBlocks) {
+        use Kind::*;
+        let seen = &mut self.seen;
+        if text.is_empty() {
+            seen.add(if self.ends.is_empty() {
+                InputNone
+            } else {
+                InputEmpty
+            });
+        }
+        for end in &self.ends {
+            let (before, behind) = text.split_at(*end as usize);
+            let is_cut = before.ends_with(b"\r") && behind.starts_with(b"\n");
+            seen.add_if(is_cut, CutAtReturn);
+        }
+        let end = &self.wanted[run.printed as usize..];
+        match (run.lines, run.kept, end) {
+            (1, 0, [b'1', b'\t', b'0', ..]) => seen.add(EndWaits),
+            (1, 0, [b'1', b'\t', b'2', ..]) => seen.add(EndWaitsRefused),
+            (0, 1.., [b'1', b'\t', b'0' | b'2', ..]) => seen.add(EndAlone),
+            (1, 1.., [b'1', b'\t', ..]) => seen.add(EndLine2),
+            (_, 1.., []) => seen.add(EndCounted),
+            _ => {}
+        }
     }
 
     /// One block more behind the first ones of the text, on both, with a page for what it prints; what the
@@ -545,6 +669,19 @@ impl Work {
             first_difference(&self.before[at..], &self.page[at..]),
         );
         Err(self.told("test_trace_block", text, preset, &what))
+    }
+
+    /// The blocks that the last run took, joined.
+    fn taken(&self, text: &[u8]) -> Vec<u8> {
+        let mut taken = Vec::new();
+        let mut start = 0;
+        for (end, answer) in self.ends.iter().zip(&self.wanted_answers) {
+            if *answer == DONE {
+                taken.extend_from_slice(&text[start..*end as usize]);
+            }
+            start = *end as usize;
+        }
+        taken
     }
 
     /// A difference with the whole input.
@@ -609,10 +746,25 @@ fn stored_traces(rng: &mut Rng, work: &mut Work) -> Result<(), String> {
     }
     // the random cuts do not depend on the order in the folder
     paths.sort();
+    let mut names = String::new();
     for path in &paths {
         stored_trace(rng, work, path)
             .map_err(|difference| format!("{}\n{difference}", path.display()))?;
         work.seen.add(Kind::Stored);
+        let name = path.file_stem().unwrap_or_default();
+        names += &format!("{}\n", name.to_string_lossy());
+    }
+    let list = fs::read_to_string(folder.join(LIST)).map_err(told)?;
+    if names != list {
+        let pairs = list.lines().zip(names.lines());
+        let same = pairs.take_while(|(listed, run)| listed == run).count();
+        return Err(format!(
+            "{LIST} has {} traces, {} were run; after {same}: {:?} is listed, {:?} was run",
+            list.lines().count(),
+            names.lines().count(),
+            list.lines().nth(same),
+            names.lines().nth(same),
+        ));
     }
     Ok(())
 }
@@ -698,19 +850,35 @@ fn overlong_blocks(rng: &mut Rng, work: &mut Work) -> Result<(), String> {
             if rest.is_empty() {
                 break;
             }
+            let mut push = |block: &[u8], answer| {
+                joined.extend_from_slice(block);
+                work.ends.push(joined.len() as u64);
+                expected.push(answer);
+            };
+            if rest.len() > MAX_BLOCK && rng.chance(3) {
+                // one block that is too long, and then the same bytes in two that are not
+                let most = rest.len().min(2 * MAX_BLOCK);
+                let length = MAX_BLOCK + 1 + rng.below((most - MAX_BLOCK) as u64) as usize;
+                let least = length - MAX_BLOCK;
+                let cut = least + rng.below((MAX_BLOCK - least) as u64 + 1) as usize;
+                let (both, behind) = rest.split_at(length);
+                rest = behind;
+                push(both, WRONG_LENGTH);
+                push(&both[..cut], DONE);
+                push(&both[cut..], DONE);
+                work.seen.add(Kind::BlockSplit);
+                continue;
+            }
             let length = rng.below(rest.len().min(MAX_BLOCK) as u64 + 1);
             let (block, behind) = rest.split_at(length as usize);
             rest = behind;
-            joined.extend_from_slice(block);
-            work.ends.push(joined.len() as u64);
-            expected.push(DONE);
+            push(block, DONE);
         }
-        let counts = work.compare(&joined, Preset::NEVER).map_err(told)?;
+        let run = work.compare(&joined, Preset::NEVER).map_err(told)?;
         // as if the refused ones had not come
-        let alone = (feeds_of(&text), kept_of(&text));
         if work.wanted_answers != expected
             || work.wanted != output(&text)
-            || (counts.lines, counts.kept) != alone
+            || counts_in(run) != counts_of(&text)
         {
             let call = "not as the taken blocks alone";
             return Err(told(work.told(call, &joined, Preset::NEVER, "")));
@@ -742,13 +910,58 @@ fn settled(rng: &mut Rng, mut text: Vec<u8>) -> Vec<u8> {
     text
 }
 
+/// Finished lines, behind which the count is set near the limit. It is never set before line 1: to an unreadable
+/// line 1 the product then gives the number behind the count, the reference number 1, and no text leads there.
+struct Start {
+    text: Vec<u8>,
+    /// Why the run is over.
+    ending: Option<Ending>,
+    /// Line 2, of one byte or more, if only line 1 has come; else nothing.
+    second: Vec<u8>,
+}
+
+impl Start {
+    fn settled(rng: &mut Rng, text: Vec<u8>) -> Start {
+        let text = settled(rng, text);
+        let ending = Ending::of(&output(&text));
+        Start {
+            text,
+            ending,
+            second: Vec::new(),
+        }
+    }
+
+    /// Line 1 alone, so that the configuration waits for line 2; not of every text.
+    fn waiting(rng: &mut Rng, mut text: Vec<u8>) -> Option<Start> {
+        if rng.chance(LONG_LINE_2) {
+            insert_overlong_line_2(rng, &mut text);
+        }
+        let mut lines = text.split_inclusive(|byte| *byte == b'\n');
+        let first = lines.next().filter(|line| line.ends_with(b"\n"))?;
+        let second = lines.next()?;
+        let second = second.strip_suffix(b"\n").unwrap_or(second);
+        if second.is_empty() || Ending::of(&output(first)) == Some(Ending::Line1) {
+            return None;
+        }
+        Some(Start {
+            text: first.to_vec(),
+            ending: None,
+            second: second.to_vec(),
+        })
+    }
+}
+
 /// Lines for one block of at most 512 bytes, unless the line feeds alone are more, and behind them an unfinished
-/// line, if asked for.
-fn push_lines(rng: &mut Rng, feeds: u64, is_open: bool, joined: &mut Vec<u8>) {
+/// line, if asked for. The first of them is the one that is handed in, as far as there is room, unless that is
+/// empty.
+fn push_lines(rng: &mut Rng, first: &mut &[u8], feeds: u64, is_open: bool, joined: &mut Vec<u8>) {
     const LINES: [&[u8]; 8] = [b"", b"", b"T\t1", b"OK", b"REQ", b"REL", b"x", b"RX\t00"];
     let mut room = MAX_BLOCK.saturating_sub(feeds as usize + usize::from(is_open));
     let mut push_some = |rng: &mut Rng, joined: &mut Vec<u8>| {
-        let line = *rng.pick(&LINES);
+        let line = match std::mem::take(first) {
+            [] => *rng.pick(&LINES),
+            line => &line[..line.len().min(room)],
+        };
         if line.len() <= room {
             room -= line.len();
             joined.extend_from_slice(line);
@@ -762,6 +975,17 @@ fn push_lines(rng: &mut Rng, feeds: u64, is_open: bool, joined: &mut Vec<u8>) {
         push_some(rng, joined);
         joined.push(b'T');
     }
+}
+
+/// In place of a block that is refused: as many of its lines as are left, or the first bytes of them.
+fn smaller_block(rng: &mut Rng, block: &[u8], spare: u64) -> Vec<u8> {
+    let lines = block.split_inclusive(|byte| *byte == b'\n');
+    let bytes: usize = lines.take(spare as usize).map(<[u8]>::len).sum();
+    let mut length = bytes.min(MAX_BLOCK);
+    if length > 0 && rng.chance(2) {
+        length = 1 + rng.below(length as u64) as usize;
+    }
+    block[..length].to_vec()
 }
 
 /// A block near the limit.
@@ -779,15 +1003,17 @@ struct AtLimit {
 fn limit_of_lines(rng: &mut Rng, work: &mut Work) -> Result<(), String> {
     let seed = rng.next_u64();
     println!("  the limit of the lines: seed {seed}");
-    let texts = hard_traces(seed).take(LIMIT_STARTS);
-    let starts: Vec<_> = texts
-        .map(|text| {
-            let start = settled(rng, text);
-            let whole = output(&start);
-            (start, whole)
-        })
+    let mut texts = hard_traces(seed);
+    let settled: Vec<_> = texts
+        .by_ref()
+        .take(LIMIT_STARTS)
+        .map(|text| Start::settled(rng, text))
         .collect();
-    work.traces += LIMIT_STARTS as u64;
+    let waiting: Vec<_> = texts
+        .filter_map(|text| Start::waiting(rng, text))
+        .take(LIMIT_STARTS)
+        .collect();
+    work.traces += 2 * LIMIT_STARTS as u64;
     let mut joined = Vec::new();
     for spare in 0..=MOST_SPARE {
         for over in [-3, -1, 0, 1, 2, 120] {
@@ -804,9 +1030,11 @@ fn limit_of_lines(rng: &mut Rng, work: &mut Work) -> Result<(), String> {
                     open_behind,
                     over,
                 };
-                let (start, whole) = rng.pick(&starts);
-                at_limit(rng, work, start, whole, at, &mut joined)
-                    .map_err(|difference| format!("{at:?}\n{difference}"))?;
+                for starts in [&settled, &waiting] {
+                    let start = rng.pick(starts);
+                    at_limit(rng, work, start, at, &mut joined)
+                        .map_err(|difference| format!("{at:?}\n{difference}"))?;
+                }
             }
         }
     }
@@ -816,17 +1044,24 @@ fn limit_of_lines(rng: &mut Rng, work: &mut Work) -> Result<(), String> {
 fn at_limit(
     rng: &mut Rng,
     work: &mut Work,
-    start: &[u8],
-    whole: &[u8],
+    start: &Start,
     at: AtLimit,
     joined: &mut Vec<u8>,
 ) -> Result<(), String> {
     joined.clear();
-    joined.extend_from_slice(start);
+    joined.extend_from_slice(&start.text);
+    let finished = feeds_of(joined);
+    let mut second = start.second.as_slice();
     if at.open_before {
-        let length = *rng.pick(&[1, 2, 79, 80, 81, 82, 300]);
-        let byte = *rng.pick(b"xT");
-        joined.resize(joined.len() + length, byte);
+        if second.is_empty() {
+            let length = *rng.pick(&[1, 2, 79, 80, 81, 82, 300]);
+            let byte = *rng.pick(b"xT");
+            joined.resize(joined.len() + length, byte);
+        } else {
+            let (open, behind) = second.split_at(1 + rng.below(second.len() as u64) as usize);
+            joined.extend_from_slice(open);
+            second = behind;
+        }
     }
     work.ends.clear();
     work.push_part(0, joined.len());
@@ -845,7 +1080,7 @@ fn at_limit(
         let least = spare.saturating_sub(500);
         let feeds = least + rng.below(MAX_BLOCK as u64 - 1).min(spare - 1 - least);
         let feeds = feeds.min(MAX_BLOCK as u64 - 1);
-        push_lines(rng, feeds, at.open_before, joined);
+        push_lines(rng, &mut second, feeds, at.open_before, joined);
         work.ends.push(joined.len() as u64);
         spare -= feeds;
     }
@@ -853,10 +1088,26 @@ fn at_limit(
     let from = joined.len();
     let lines = spare as i64 + at.over;
     let feeds = (lines - i64::from(at.open_behind)).max(0) as u64;
-    push_lines(rng, feeds, at.open_behind, joined);
+    push_lines(rng, &mut second, feeds, at.open_behind, joined);
     work.ends.push(joined.len() as u64);
     let block = from..joined.len();
-    // what comes behind it finds the counts that it left
+    let is_open = if block.is_empty() {
+        at.open_before
+    } else {
+        at.open_behind
+    };
+    let lines = feeds + u64::from(is_open);
+    let is_refused = block.len() > MAX_BLOCK || lines > spare;
+    let smaller = if is_refused && rng.chance(2) {
+        smaller_block(rng, &joined[block.clone()], spare)
+    } else {
+        Vec::new()
+    };
+    if !smaller.is_empty() {
+        joined.extend_from_slice(&smaller);
+        work.ends.push(joined.len() as u64);
+    }
+    // what comes behind finds the counts that they left
     for _ in 0..rng.below(4) {
         let piece = *rng.pick::<&[u8]>(&[b"", b"x", b"\n", b"\n\n", b"0\nT\t1\n"]);
         joined.extend_from_slice(piece);
@@ -865,39 +1116,70 @@ fn at_limit(
 
     work.compare(joined, preset)?;
     let answer = work.wanted_answers[number];
-    let is_open = if block.is_empty() {
-        at.open_before
-    } else {
-        at.open_behind
-    };
-    // by the words of the order
-    let lines = feeds + u64::from(is_open);
-    let is_refused = block.len() > MAX_BLOCK || lines > spare;
     if answer != if is_refused { WRONG_LENGTH } else { DONE } {
         let what = format!("block {number} has {lines} lines, {spare} are left, answer {answer}");
-        return Err(work.told("not the answer of the order", joined, preset, &what));
+        return Err(work.told("not what the block is to be", joined, preset, &what));
     }
-    let ending = Ending::of(whole);
-    if ending.is_some() && work.wanted != whole {
-        return Err(work.told("prints after the end of the run", joined, preset, ""));
+    let taken = work.taken(joined);
+    let whole = output(&taken);
+    let expected = renumbered(&whole, finished, preset.lines);
+    if work.wanted != expected {
+        let what = first_difference(&expected, &work.wanted);
+        return Err(work.told("not the lines of the taken text", joined, preset, &what));
     }
-    see_limit(
-        &mut work.seen,
-        at,
-        lines,
-        spare,
-        &joined[block.clone()],
-        ending,
-    );
+
+    let seen = &mut work.seen;
+    see_limit(seen, at, lines, spare, &joined[block.clone()], start.ending);
+    if !smaller.is_empty() && block.len() <= MAX_BLOCK {
+        let lines = feeds_of(&smaller) + u64::from(!smaller.ends_with(b"\n"));
+        let kind = if lines == spare {
+            Kind::LimitSmallerExact
+        } else {
+            Kind::LimitSmaller
+        };
+        seen.add_if(work.wanted_answers[number + 1] == DONE, kind);
+    }
+    if !start.second.is_empty() && feeds_of(&joined[..from]) == 1 {
+        see_second(seen, feeds, lines, spare, &joined[block.clone()], &taken);
+    }
     let is_last = |line: &[u8]| line == LAST_NUMBER;
     let is_printed = work.wanted.windows(LAST_NUMBER.len()).any(is_last);
-    work.seen.add_if(is_printed, Kind::LimitPrinted);
+    seen.add_if(is_printed, Kind::LimitPrinted);
 
     // alone, with a page; the count has to be set before
     if number > set_at {
         work.compare_block(joined, number, preset, &joined[block])?;
     }
+    if !smaller.is_empty() {
+        work.compare_block(joined, number + 1, preset, &smaller)?;
+    }
     Ok(())
+}
+
+/// Counts a block near the limit that comes when the configuration waits for line 2, with the text that was taken
+/// in all.
+fn see_second(seen: &mut Seen, feeds: u64, lines: u64, spare: u64, block: &[u8], taken: &[u8]) {
+    use Kind::*;
+    if block.is_empty() || block.len() > MAX_BLOCK {
+        return;
+    }
+    if lines > spare {
+        seen.add_if(lines == spare + 1, LimitSecondPast);
+        seen.add_if(spare == 0, LimitSecondNone);
+        return;
+    }
+    if feeds == 0 {
+        seen.add_if(lines == spare, LimitSecondOpen);
+        return;
+    }
+    seen.add_if(lines == spare, LimitSecondExact);
+    let second = taken.split(|byte| *byte == b'\n').nth(1);
+    seen.add(match Ending::of(&output(taken)) {
+        Some(Ending::Pn) => LimitSecondBroken,
+        Some(_) => LimitSecondRefused,
+        None if second.is_some_and(is_pn_line) => LimitSecondPn,
+        None => LimitSecondCall,
+    });
 }
 
 /// Counts a block near the limit, with its lines and those that are left for it.
@@ -1003,7 +1285,7 @@ fn block_after_the_run(
             3 => joined.extend_from_slice(RUN),
             _ => {
                 let (feeds, is_open) = (rng.below(60), rng.chance(2));
-                push_lines(rng, feeds, is_open, joined);
+                push_lines(rng, &mut b"".as_slice(), feeds, is_open, joined);
             }
         }
         work.ends.push(joined.len() as u64);
