@@ -10,7 +10,7 @@ use lib.Dec.{eqb}
 use lib.ListN.{length, take, drop, length-append, take-append-drop}
 use lib.Seq.{take-append-add, drop-append-add, take-take, take-length, drop-length, length-take-le}
 use Rattle.text.specs.Lines.{before, lineFeed, linesOf}
-use Rattle.blocks.specs.Blocks.{cut, keptOf, lineMost, unfinished, finishedLen, finishedLines, finishedWith}
+use Rattle.blocks.specs.Blocks.{cut, finishedLen, finishedLines, finishedWith, keptOf, lineMost, unfinished}
 use Rattle.blocks.proofs.Finished.{finished-le}
 use Rattle.blocks.specs.Runs.{after, outs}
 
@@ -51,7 +51,7 @@ lines-split (x ∷ xs) t = by-length (finishedLen xs) xs (finished-le xs) (lines
 lines-last : (s : List ℕ) → finishedLines s ++ linesOf (unfinished s) ≡ linesOf s
 lines-last s = sym (ap linesOf (sym (append-nil s)) ∙ lines-split s [] ∙ rw append-nil)
 
--- the finished lines of a text are whole
+-- the finished lines of a text are finished
 finished-again : (s : List ℕ) → finishedLen (take (finishedLen s) s) ≡ finishedLen s
 unfolding finishedLen
 finished-again [] = refl
@@ -93,8 +93,8 @@ module _ (s t : List ℕ) where
   parts = sym (append-assoc (take (finishedLen s) s) (unfinished s) t) ∙ ap (λ (l : List ℕ). l ++ t) (take-append-drop (finishedLen s) s)
 
   -- cut behind those of the finished lines
-  at-whole : (n : ℕ) → length (take (finishedLen s) s) + n ≡ finishedLen s + n
-  at-whole n = ap (λ (k : ℕ). k + n) (length-take-le (finishedLen s) s (finished-le s))
+  at-finished : (n : ℕ) → length (take (finishedLen s) s) + n ≡ finishedLen s + n
+  at-finished n = ap (λ (k : ℕ). k + n) (length-take-le (finishedLen s) s (finished-le s))
 
   -- the finished lines grow by those of the unfinished line and more
   finished-lines-more : finishedLines (s ++ t) ≡ finishedLines s ++ finishedLines (unfinished s ++ t)
@@ -103,7 +103,7 @@ module _ (s t : List ℕ) where
       let u = unfinished s ++ t in
       let n = finishedLen u in
       let e : finishedLen w ≡ length w = finished-again s ∙ sym (length-take-le (finishedLen s) s (finished-le s)) in
-      ap (λ (k : ℕ). linesOf (take k (s ++ t))) (finished-split s t ∙ sym (at-whole n))
+      ap (λ (k : ℕ). linesOf (take k (s ++ t))) (finished-split s t ∙ sym (at-finished n))
       ∙ ap (λ (l : List ℕ). linesOf (take (length w + n) l)) (sym parts)
       ∙ ap linesOf (take-append-add w u n)
       ∙ lines-split w (take n u)
@@ -115,7 +115,7 @@ module _ (s t : List ℕ) where
       let w = take (finishedLen s) s in
       let u = unfinished s ++ t in
       let n = finishedLen u in
-      ap (λ (k : ℕ). drop k (s ++ t)) (finished-split s t ∙ sym (at-whole n))
+      ap (λ (k : ℕ). drop k (s ++ t)) (finished-split s t ∙ sym (at-finished n))
       ∙ ap (drop (length w + n)) (sym parts)
       ∙ drop-append-add w u n
 

@@ -2,7 +2,7 @@
 use mathlib.Core.Path.{_≡_, refl}
 use mathlib.Core.List.{[], _∷_}
 use Rattle.text.specs.Lines.{linesOf}
-use Rattle.blocks.specs.Blocks.{keptOf, finishedLen, finishedLines}
+use Rattle.blocks.specs.Blocks.{finishedLen, finishedLines, keptOf}
 
 -- "A", a line without a byte, and "BC" without a line feed
 three-lines : linesOf (65 ∷ 10 ∷ 10 ∷ 66 ∷ 67 ∷ []) ≡ (65 ∷ []) ∷ [] ∷ (66 ∷ 67 ∷ []) ∷ []
@@ -14,7 +14,7 @@ no-line-more : linesOf (65 ∷ 10 ∷ []) ≡ (65 ∷ []) ∷ []
 unfolding linesOf
 no-line-more = refl
 
--- of "A", a line feed and "BC" one line is whole, and "BC" is kept
+-- of "A", a line feed and "BC" one line is finished, and "BC" is kept
 one-finished : finishedLines (65 ∷ 10 ∷ 66 ∷ 67 ∷ []) ≡ (65 ∷ []) ∷ []
 unfolding finishedLen linesOf
 one-finished = refl

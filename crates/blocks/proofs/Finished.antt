@@ -9,7 +9,7 @@ use lib.ListN.{length, take, getD, length-take}
 use lib.Seq.{take-suc, length-take-le}
 use borrow.Author.Tests.{eq-eqb, ne-eqb}
 use Rattle.text.specs.Lines.{lineFeed}
-use Rattle.blocks.specs.Blocks.{keptOf, lineMost, finishedLen, finishedWith}
+use Rattle.blocks.specs.Blocks.{finishedLen, finishedWith, keptOf, lineMost}
 
 -- ---- looking for the last line feed from the end
 

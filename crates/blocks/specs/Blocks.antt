@@ -1,4 +1,4 @@
--- A text that is read in blocks: the lines that are whole, and what is kept of the unfinished one. Assumes nothing.
+-- A text that is read in blocks: the lines that are finished, and what is kept of the unfinished one. Assumes nothing.
 use Prim.Native.Nat.{ℕ, zero, suc, _+_}
 use mathlib.Core.Bool.{Bool, cond}
 use mathlib.Core.List.{List, [], _∷_}
@@ -28,7 +28,7 @@ finishedLen (x ∷ xs) = finishedWith x (finishedLen xs)
 abbrev pub finishedLines : List ℕ → List (List ℕ)
 finishedLines s = linesOf (take (finishedLen s) s)
 
--- its unfinished line, of no byte where the last is whole
+-- its unfinished line, of no byte where the last is finished
 abbrev pub unfinished : List ℕ → List ℕ
 unfinished s = drop (finishedLen s) s
 

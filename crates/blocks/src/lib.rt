@@ -1,10 +1,10 @@
-// A text that is read in blocks: the lines of a block that are whole, and what is kept of the unfinished one.
+// A text that is read in blocks: the lines that are finished, and what is kept of the unfinished one.
 //
 // Promises: where the unfinished line of a text begins, and whether all its lines have a number; that a run over blocks,
 // which keeps the start of an unfinished line, gives what the run over the whole text gives (proofs/Blocks). Leaves to
 // others: the lines themselves (`text`), which blocks are taken, and what is kept between them (`trace`).
 ghost use mathlib.Core.Path.{_≡_};
-ghost use Rattle.blocks.specs.Blocks.{linesFit, finishedLen};
+ghost use Rattle.blocks.specs.Blocks.{finishedLen, linesFit};
 
 // The most bytes that a line may have. One byte more tells that it is too long, so no more of it is kept.
 pub const LINE_MOST: usize = 80;
@@ -26,8 +26,8 @@ pub fn finished_len(s: &[u8]) -> usize
 // The most lines that are counted, which is the largest number of a line.
 pub const LINES_MOST: u64 = 18446744073709551615;
 
-// Have all lines of a text a number, behind so many lines? They are counted only where their bytes are too many: a text has
-// no more lines than bytes.
+// Can the lines of a text be counted behind so many lines? They are looked for only if there are more bytes than line numbers
+// left: a text has no more lines than bytes.
 pub fn lines_fit(lines: u64, text: &[u8]) -> bool
     ensures { λ r. ⌜ r ≡ linesFit lines (now (text .entry)) ⌝ }
 {

@@ -86,12 +86,12 @@ unfoldable pub blockOf : Trace → List ℕ → BlockOutcome
 blockOf t b = cond (isTaken t b) (taken (t .run) (keptIn t ++ b)) (refused t)
 
 -- the reply that tells an outcome, whose text ends before place `at` of the lent buffer
-abbrev pub replyOf : BlockOutcome → BlockReply
-replyOf o = record { answer = o .answer; trace = o .trace; at = length (o .text) }
+abbrev pub blockReplyOf : BlockOutcome → BlockReply
+blockReplyOf o = record { answer = o .answer; trace = o .trace; at = length (o .text) }
 
 -- that reply is given, and the text stands at the start of the list l, which makes the list m
 pub record GivesBlock (o : BlockOutcome) (l m : List ℕ) (r : BlockReply) : Type 0 where
-  pub reply : r ≡ replyOf o
+  pub reply : r ≡ blockReplyOf o
   pub list : m ≡ sets l 0 (o .text)
 
 -- ---- the end of the input

@@ -19,7 +19,7 @@ ghost use Rattle.text.specs.Lines.{linesOf};
 ghost use Rattle.runs.specs.Runs.{Gives};
 ghost use Rattle.trace_line.specs.TraceLine.{room};
 ghost use Rattle.call_lines.specs.CallLines.{linesFrom};
-ghost use Rattle.trace.specs.Trace.{GivesBlock, blockOf, ended, firstRun, keeping, refused, replyOf, start, taken, whole, wholeFrom};
+ghost use Rattle.trace.specs.Trace.{GivesBlock, blockOf, ended, firstRun, keeping, refused, blockReplyOf, start, taken, whole, wholeFrom};
 
 // ---- the lines of a text
 
@@ -155,7 +155,7 @@ fn taken(run: Run, text: &[u8], out: &mut [u8]) -> BlockReply
 
 // A block that is refused leaves all as it was.
 fn refused(trace: Trace) -> BlockReply
-    ensures { λ r. ⌜ r ≡ replyOf (refused trace) ⌝ }
+    ensures { λ r. ⌜ r ≡ blockReplyOf (refused trace) ⌝ }
 {
     BlockReply {
         answer: Answer::Length,

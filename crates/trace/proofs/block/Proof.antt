@@ -1,21 +1,29 @@
 -- `trace::block` meets its contract. Assumes nothing.
-use mathlib.Core.Path.{_≡_, refl, _∙_}
-use mathlib.Core.List.{_++_}
-use Prim.Native.Nat.{_+_}
+use mathlib.Core.Path.{_≡_, refl, ap, _∙_}
+use mathlib.Core.Bool.{Bool, false, _&&_}
+use mathlib.Core.List.{List, _++_}
+use Prim.Native.Nat.{ℕ, _+_, _<_}
 use native.Mathlib.Omega.{arith}
 use borrow.Author.Needs.{needs}
 use borrow.Author.Tests.{le-leb, lt-leb}
 use lib.ListN.{length, replicate, length-append, length-take}
+use Rattle.blocks.specs.Blocks.{linesFit}
+use Rattle.trace.specs.declared.Trace.{Trace}
 use Rattle.trace.specs.Trace.{blockMost, blockOf, isTaken, keptIn, keptMost}
 use Rattle.trace.proofs.Text.{array-length, filled-text}
 use Rattle.trace.proofs.block.Statement.{statement}
 use Rattle.trace.proofs.block.Tie as tie
 
+-- a block that is too long is not taken
+too-long : (t : Trace) (b : List ℕ) → blockMost < length b → isTaken t b ≡ false
+unfolding isTaken
+too-long t b h = ap (λ (x : Bool). x && linesFit (t .run .lines) (keptIn t ++ b)) (lt-leb (length b) blockMost h)
+
 returns : tie.Need-returns
-unfolding blockOf isTaken
+unfolding blockOf
 returns c =
-    let b = c .before .before .before .args .block .now in
-    rw (lt-leb (length b) blockMost (omega (arith, c .before .if1 .taken))) (record { reply = c .refused .ensures; list = refl })
+    let a = c .before .before .before .args in
+    rw (too-long (a .trace) (a .block .now) (omega (arith, c .before .if1 .taken))) (record { reply = c .refused .ensures; list = refl })
 
 -- what is kept has room in its array
 line-length : (s : tie.Start) → length (s .args .trace .line) ≡ keptMost

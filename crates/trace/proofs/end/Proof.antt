@@ -1,9 +1,11 @@
 -- `trace::end` meets its contract. Assumes nothing.
-use mathlib.Core.Path.{_≡_}
+use mathlib.Core.Path.{ap}
+use mathlib.Core.List.{List}
+use Prim.Native.Nat.{ℕ}
 use native.Mathlib.Omega.{arith}
 use borrow.Author.Needs.{needs}
 use lib.ListN.{length, length-take}
-use Rattle.trace.specs.Trace.{ended, keptMost}
+use Rattle.trace.specs.Trace.{ended}
 use Rattle.trace.proofs.Text.{array-length}
 use Rattle.trace.proofs.end.Statement.{statement}
 use Rattle.trace.proofs.end.Tie as tie
@@ -11,8 +13,10 @@ use Rattle.trace.proofs.end.Tie as tie
 whole-from-requires : tie.Need-whole-from-requires
 whole-from-requires c κs =
     let s = c .before .before .before .before in
-    let n : length (s .args .trace .line) ≡ keptMost = array-length (s .args .trace .line) (s .good .0 .1 .1 .1 .0 .1 .0 .1) in
-    rw (c .before .part .ensures, length-take) (omega arith)
+    let line = s .args .trace .line in
+    let n = array-length line (s .good .0 .1 .1 .1 .0 .1 .0 .1) in
+    let e = ap (λ (l : List ℕ). length l) (c .before .part .ensures) in
+    omega (arith, n, e, length-take (s .args .trace .kept) line)
 
 returns : tie.Need-returns
 unfolding ended
