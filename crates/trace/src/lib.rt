@@ -19,7 +19,7 @@ ghost use Rattle.text.specs.Lines.{linesOf};
 ghost use Rattle.runs.specs.Runs.{Gives};
 ghost use Rattle.trace_line.specs.TraceLine.{room};
 ghost use Rattle.call_lines.specs.CallLines.{linesFrom};
-ghost use Rattle.trace.specs.Trace.{GivesBlock, blockOf, ended, firstRun, keeping, refused, blockReplyOf, start, taken, whole, wholeFrom};
+ghost use Rattle.trace.specs.Trace.{GivesBlock, blockOf, blockReplyOf, ended, firstRun, keeping, refused, start, taken, whole, wholeFrom};
 
 // ---- the lines of a text
 
