@@ -12,7 +12,7 @@ use lib.Seq.{take-append-add, drop-append-add, take-take, take-length, drop-leng
 use Rattle.text.specs.Lines.{before, lineFeed, linesOf}
 use Rattle.blocks.specs.Blocks.{cut, finishedLen, finishedLines, finishedWith, keptOf, lineMost, unfinished}
 use Rattle.blocks.proofs.Finished.{finished-le}
-use Rattle.blocks.specs.Runs.{after, outs}
+use Rattle.blocks.specs.Runs.{after}
 
 -- ---- finished lines and the unfinished line
 
@@ -267,34 +267,3 @@ module _ {ℓ} {S : Type ℓ} (step : S → List ℕ → S) where
           after-like (after step o (finishedLines s)) (linesOf (keptOf s)) (linesOf (unfinished s)) (last-cut (unfinished s) (open-rest s))
           ∙ sym (after-append o (finishedLines s) (linesOf (unfinished s)))
           ∙ ap (after step o) (lines-last s)
-
-    module _ (out : S → List ℕ → List ℕ) (enough-out : (s : S) (l : List ℕ) → out s (cut l) ≡ out s l) where
-      outs-append : (s : S) (a b : List (List ℕ)) → outs step out s (a ++ b) ≡ outs step out s a ++ outs step out (after step s a) b
-      unfolding after outs
-      outs-append s [] b = refl
-      outs-append s (l ∷ a) b = rw (outs-append (step s l) a b, append-assoc)
-
-      outs-map : (s : S) (ls : List (List ℕ)) → outs step out s (map cut ls) ≡ outs step out s ls
-      unfolding outs
-      outs-map s [] = refl
-      outs-map s (l ∷ ls) = rw (enough s l, enough-out s l, outs-map (step s l) ls)
-
-      outs-like : (s : S) (a b : List (List ℕ)) → map cut a ≡ map cut b → outs step out s a ≡ outs step out s b
-      outs-like s a b e = sym (outs-map s a) ∙ ap (outs step out s) e ∙ outs-map s b
-
-      module _ (o : S) (s : List ℕ) where
-        -- the same of what is put out
-        pub outs-more : (b : List ℕ)
-            → outs step out o (finishedLines s) ++ outs step out (after step o (finishedLines s)) (finishedLines (keptOf s ++ b)) ≡ outs step out o (finishedLines (s ++ b))
-        outs-more b =
-            ap (λ (l : List ℕ). outs step out o (finishedLines s) ++ l)
-            (outs-like (after step o (finishedLines s)) (finishedLines (keptOf s ++ b)) (finishedLines (unfinished s ++ b)) (finished-cut (unfinished s) b (open-rest s)))
-            ∙ sym (outs-append o (finishedLines s) (finishedLines (unfinished s ++ b)))
-            ∙ ap (outs step out o) (sym (finished-lines-more s b))
-
-        pub outs-end : outs step out o (finishedLines s) ++ outs step out (after step o (finishedLines s)) (linesOf (keptOf s)) ≡ outs step out o (linesOf s)
-        outs-end =
-            ap (λ (l : List ℕ). outs step out o (finishedLines s) ++ l)
-            (outs-like (after step o (finishedLines s)) (linesOf (keptOf s)) (linesOf (unfinished s)) (last-cut (unfinished s) (open-rest s)))
-            ∙ sym (outs-append o (finishedLines s) (linesOf (unfinished s)))
-            ∙ ap (outs step out o) (lines-last s)

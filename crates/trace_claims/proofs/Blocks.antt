@@ -14,11 +14,11 @@ use Rattle.text.proofs.Lines.{lines-grow}
 use Rattle.blocks.specs.Blocks.{cut, finishedLen, finishedLines, keptOf, linesMost}
 use Rattle.blocks.specs.Runs.{after, outs}
 use Rattle.blocks.proofs.Finished.{kept-short}
-use Rattle.blocks.proofs.Blocks.{after-end, after-more, count-more, kept-more, outs-end, outs-more}
+use Rattle.blocks.proofs.Blocks.{after-end, after-more, count-more, kept-more}
 use Rattle.runs.specs.declared.Run.{Run}
 use Rattle.runs.specs.Runs.{Outcome, outcome}
 use Rattle.config_lines.specs.ConfigLines.{holding}
-use Rattle.trace_line.specs.TraceLine.{ending, stepOf, textOf}
+use Rattle.trace_line.specs.TraceLine.{andThen, ending, lineOf, stepOf, textOf}
 use Rattle.call_lines.specs.CallLines.{linesFrom}
 use Rattle.trace.specs.declared.Trace.{Trace}
 use Rattle.trace.specs.Trace.{BlockOutcome, blockMost, blockOf, ended, firstRun, isTaken, keeping, keptIn, keptMost, refused, start, taken, whole, wholeFrom}
@@ -26,31 +26,53 @@ use Rattle.trace_claims.specs.Claims.{AllShort, EveryBlockIsJudged, Ever
 use Rattle.trace_claims.proofs.Counted.{after-lines}
 use Rattle.trace_claims.proofs.Cut.{line-cut}
 
+-- ---- lines with what they print
+
+-- an outcome with one line more
+abbrev onward : Outcome → List ℕ → Outcome
+onward o l = andThen o (lineOf (o .run) l)
+
+-- it looks at no more than the start of the line
+enough : (o : Outcome) (l : List ℕ) → onward o (cut l) ≡ onward o l
+enough o l = ap (andThen o) (line-cut (o .run) l)
+
+-- an outcome with more lines
+onward-is : (o : Outcome) (ls : List (List ℕ)) → after onward o ls ≡ andThen o (linesFrom (o .run) ls)
+unfolding after outs linesFrom
+onward-is o [] = ap (outcome (o .run)) (sym (append-nil (o .text)))
+onward-is o (l ∷ ls) =
+    onward-is (onward o l) ls
+    ∙ ap (outcome (after stepOf (stepOf (o .run) l) ls)) (append-assoc (o .text) (textOf (o .run) l) (outs stepOf textOf (stepOf (o .run) l) ls))
+
+-- what lines come to from the first run on
+abbrev from : List (List ℕ) → Outcome
+from ls = linesFrom firstRun ls
+
+from-is : (ls : List (List ℕ)) → after onward (outcome firstRun []) ls ≡ from ls
+from-is ls = onward-is (outcome firstRun []) ls
+
+-- lines behind others come to what lines come to that lead to the same
+from-both : (a b c : List (List ℕ))
+    → after onward (after onward (outcome firstRun []) a) b ≡ after onward (outcome firstRun []) c
+    → andThen (from a) (linesFrom (from a .run) b) ≡ from c
+from-both a b c e = sym (onward-is (from a) b) ∙ ap (λ (o : Outcome). after onward o b) (sym (from-is a)) ∙ e ∙ from-is c
+
 -- ---- a trace between two blocks
 
--- a run looks at no more than the start of a line
-enough : (run : Run) (l : List ℕ) → stepOf run (cut l) ≡ stepOf run l
-enough run l = ap (λ (o : Outcome). o .run) (line-cut run l)
+-- what the finished lines of a text come to
+abbrev finished : List ℕ → Outcome
+finished s = from (finishedLines s)
 
-enough-text : (run : Run) (l : List ℕ) → textOf run (cut l) ≡ textOf run l
-enough-text run l = ap (λ (o : Outcome). o .text) (line-cut run l)
+-- with a block, the text has those of what was kept and the block
+more : (s b : List ℕ) → andThen (finished s) (linesFrom (finished s .run) (finishedLines (keptOf s ++ b))) ≡ finished (s ++ b)
+more s b = from-both (finishedLines s) (finishedLines (keptOf s ++ b)) (finishedLines (s ++ b)) (after-more onward enough (outcome firstRun []) s b)
 
--- the run after the finished lines of a text, and what they print
-abbrev runBehind : List ℕ → Run
-runBehind s = after stepOf firstRun (finishedLines s)
-
-abbrev printedBehind : List ℕ → List ℕ
-printedBehind s = outs stepOf textOf firstRun (finishedLines s)
+-- at the end, what was kept is the last
+last : (s : List ℕ) → andThen (finished s) (linesFrom (finished s .run) (linesOf (keptOf s))) ≡ from (linesOf s)
+last s = from-both (finishedLines s) (linesOf (keptOf s)) (linesOf s) (after-end onward enough (outcome firstRun []) s)
 
 abbrev traceBehind : List ℕ → Trace
-traceBehind s = keeping (runBehind s) (keptOf s)
-
-abbrev behind : List ℕ → Progress
-behind s = record { trace = traceBehind s; text = printedBehind s }
-
-behind-is : (s : List ℕ) → afterText s ≡ behind s
-unfolding linesFrom
-behind-is s = refl
+traceBehind s = keeping (finished s .run) (keptOf s)
 
 -- what is kept is found again
 kept-in : (run : Run) (k : List ℕ) → length k ≤ keptMost → keptIn (keeping run k) ≡ k
@@ -58,15 +80,15 @@ unfolding keeping
 kept-in run k h = filled-front (replicate keptMost 0) k (omega (arith, h))
 
 kept-behind : (s : List ℕ) → keptIn (traceBehind s) ≡ keptOf s
-kept-behind s = kept-in (runBehind s) (keptOf s) (kept-short s)
+kept-behind s = kept-in (finished s .run) (keptOf s) (kept-short s)
 
-run-in : (s : List ℕ) → traceBehind s .run ≡ runBehind s
+run-in : (s : List ℕ) → traceBehind s .run ≡ finished s .run
 unfolding keeping
 run-in s = refl
 
 -- before the first block
 start-is : start ≡ traceBehind []
-unfolding start after finishedLen linesOf
+unfolding start linesFrom after finishedLen linesOf
 start-is = refl
 
 -- the lines of a text can be counted
@@ -80,8 +102,8 @@ none = omega arith
 finished-count : (s : List ℕ) → length (finishedLines s) ≤ length (linesOf s)
 finished-count s = let e = rw (append-nil, append-nil) at (count-more s []) in omega (arith, e)
 
-lines-behind : (s : List ℕ) → Countable s → runBehind s .lines ≡ length (finishedLines s)
-unfolding firstRun holding
+lines-behind : (s : List ℕ) → Countable s → finished s .run .lines ≡ length (finishedLines s)
+unfolding linesFrom firstRun holding
 lines-behind s h = after-lines firstRun (finishedLines s) (omega (arith, finished-count s)) ∙ omega arith
 
 -- ---- one block
@@ -93,15 +115,14 @@ module _ (s b : List ℕ) (h : Countable s) where
 
   -- a block that is taken is a block of the text
   abbrev next : BlockOutcome
-  next = record { answer = Done; trace = traceBehind (s ++ b); text = outs stepOf textOf (runBehind s) (finishedLines (keptOf s ++ b)) }
+  next = record { answer = Done; trace = traceBehind (s ++ b); text = linesFrom (finished s .run) (finishedLines (keptOf s ++ b)) .text }
 
-  taken-is : taken (runBehind s) (keptIn (traceBehind s) ++ b) ≡ next
-  unfolding linesFrom
-  taken-is = rw (kept-behind s, after-more stepOf enough firstRun s b, kept-more s b)
+  taken-is : taken (finished s .run) (keptIn (traceBehind s) ++ b) ≡ next
+  taken-is = rw (kept-behind s, kept-more s b, ap (λ (o : Outcome). o .run) (more s b))
 
   block-is : blockOf (traceBehind s) b ≡ cond (fits s b) next (refused (traceBehind s))
   unfolding blockOf keeping
-  block-is = ap (λ (t : Bool). cond t (taken (runBehind s) (keptIn (traceBehind s) ++ b)) (refused (traceBehind s))) judged ∙ ap (λ (o : BlockOutcome). cond (fits s b) o (refused (traceBehind s))) taken-is
+  block-is = ap (λ (t : Bool). cond t (taken (finished s .run) (keptIn (traceBehind s) ++ b)) (refused (traceBehind s))) judged ∙ ap (λ (o : BlockOutcome). cond (fits s b) o (refused (traceBehind s))) taken-is
 
   right : (t u : Bool) → t && u ≡ true → u ≡ true
   right true u e = e
@@ -135,48 +156,42 @@ trace-is s (b ∷ bs) h =
     (λ i. trace-is (s ++ b) bs i)
     (trace-is s bs h)
 
-text-is : (s : List ℕ) (bs : List (List ℕ)) → Countable s → printedBehind s ++ afterBlocks (traceBehind s) bs .text ≡ printedBehind (takenBehind s bs)
+text-is : (s : List ℕ) (bs : List (List ℕ)) → Countable s → finished s .text ++ afterBlocks (traceBehind s) bs .text ≡ finished (takenBehind s bs) .text
 unfolding afterBlocks takenBehind
-text-is s [] h = append-nil (printedBehind s)
+text-is s [] h = append-nil (finished s .text)
 text-is s (b ∷ bs) h =
     let x = afterBlocks (traceBehind (s ++ b)) bs .text in
     either-fits s b h
-    (λ (o : BlockOutcome) (u : List ℕ). printedBehind s ++ (o .text ++ afterBlocks (o .trace) bs .text) ≡ printedBehind (takenBehind u bs))
-    (λ i.
-    sym (append-assoc (printedBehind s) (next s b h .text) x) ∙ ap (λ (l : List ℕ). l ++ x) (outs-more stepOf enough textOf enough-text firstRun s b)
-    ∙ text-is (s ++ b) bs i)
+    (λ (o : BlockOutcome) (u : List ℕ). finished s .text ++ (o .text ++ afterBlocks (o .trace) bs .text) ≡ finished (takenBehind u bs) .text)
+    (λ i. sym (append-assoc (finished s .text) (next s b h .text) x) ∙ ap (λ (o : Outcome). o .text ++ x) (more s b) ∙ text-is (s ++ b) bs i)
     (text-is s bs h)
-
-progress-is : (bs : List (List ℕ)) → afterBlocks start bs ≡ behind (takenText bs)
-unfolding outs finishedLen linesOf
-progress-is bs = ap (λ (t : Trace). afterBlocks t bs) start-is ∙ both (trace-is [] bs none) (text-is [] bs none)
-  where
-    both : {p q : Progress} → p .trace ≡ q .trace → p .text ≡ q .text → p ≡ q
-    both e f = λ i. record { trace = e i; text = f i }
 
 -- ---- the end of the input
 
--- the unfinished line and the end behind what the finished lines came to
+-- the unfinished line and the end, behind what the finished lines came to
 abbrev endedBehind : Progress → Outcome
 endedBehind p = outcome (ended (p .trace) .run) (p .text ++ ended (p .trace) .text)
 
-ended-is : (s : List ℕ) → endedBehind (behind s) ≡ whole s
-unfolding ended wholeFrom linesFrom
+ended-is : (s : List ℕ) → endedBehind (afterText s) ≡ whole s
+unfolding ended wholeFrom
 ended-is s =
-    let e = ending (after stepOf firstRun (linesOf s)) in
-    rw (kept-behind s, run-in s, after-end stepOf enough firstRun s)
-    (ap (λ (l : List ℕ). outcome (e .run) l)
-    (sym (append-assoc (printedBehind s) (outs stepOf textOf (runBehind s) (linesOf (keptOf s))) (e .text))
-    ∙ ap (λ (l : List ℕ). l ++ e .text) (outs-end stepOf enough textOf enough-text firstRun s)))
+    let o = linesFrom (finished s .run) (linesOf (keptOf s)) in
+    let e = ending (o .run) in
+    rw (kept-behind s, run-in s)
+    (ap (outcome (e .run)) (sym (append-assoc (finished s .text) (o .text) (e .text))) ∙ ap (λ (p : Outcome). andThen p (ending (p .run))) (last s))
 
 -- ---- the claims
 
 pub every-cut-is-of-its-text : EveryCutIsOfItsText
-every-cut-is-of-its-text bs = progress-is bs ∙ sym (behind-is (takenText bs))
+unfolding linesFrom outs after finishedLen linesOf
+every-cut-is-of-its-text bs = ap (λ (t : Trace). afterBlocks t bs) start-is ∙ both (trace-is [] bs none) (text-is [] bs none)
+  where
+    both : {p q : Progress} → p .trace ≡ q .trace → p .text ≡ q .text → p ≡ q
+    both e f = λ i. record { trace = e i; text = f i }
 
 pub every-block-is-judged : EveryBlockIsJudged
 every-block-is-judged bs b =
-    ap (λ (p : Progress). blockOf (p .trace) b .answer) (progress-is bs)
+    ap (λ (p : Progress). blockOf (p .trace) b .answer) (every-cut-is-of-its-text bs)
     ∙ ap (λ (o : BlockOutcome). o .answer) (block-is s b h)
     ∙ by-fit (fits s b)
   where
@@ -191,7 +206,7 @@ every-block-is-judged bs b =
     by-fit false = refl
 
 pub every-cut-is-the-whole : EveryCutIsTheWhole
-every-cut-is-the-whole bs = ap endedBehind (progress-is bs) ∙ ended-is (takenText bs)
+every-cut-is-the-whole bs = ap endedBehind (every-cut-is-of-its-text bs) ∙ ended-is (takenText bs)
 
 taken-all : (s : List ℕ) (bs : List (List ℕ)) → AllShort bs → Countable (s ++ joined bs) → takenBehind s bs ≡ s ++ joined bs
 unfolding takenBehind
