@@ -51,7 +51,7 @@ from ls = linesFrom firstRun ls
 from-is : (ls : List (List ℕ)) → after onward (outcome firstRun []) ls ≡ from ls
 from-is ls = onward-is (outcome firstRun []) ls
 
--- lines behind others come to what lines come to that lead to the same
+-- two runs of lines that lead to the same outcome, one in two parts
 from-both : (a b c : List (List ℕ))
     → after onward (after onward (outcome firstRun []) a) b ≡ after onward (outcome firstRun []) c
     → andThen (from a) (linesFrom (from a .run) b) ≡ from c
@@ -63,7 +63,7 @@ from-both a b c e = sym (onward-is (from a) b) ∙ ap (λ (o : Outcome). after o
 abbrev finished : List ℕ → Outcome
 finished s = from (finishedLines s)
 
--- with a block, the text has those of what was kept and the block
+-- with a block, the text has in addition those of what was kept and the block
 more : (s b : List ℕ) → andThen (finished s) (linesFrom (finished s .run) (finishedLines (keptOf s ++ b))) ≡ finished (s ++ b)
 more s b = from-both (finishedLines s) (finishedLines (keptOf s ++ b)) (finishedLines (s ++ b)) (after-more onward enough (outcome firstRun []) s b)
 
@@ -71,6 +71,7 @@ more s b = from-both (finishedLines s) (finishedLines (keptOf s ++ b)) (finished
 last : (s : List ℕ) → andThen (finished s) (linesFrom (finished s .run) (linesOf (keptOf s))) ≡ from (linesOf s)
 last s = from-both (finishedLines s) (linesOf (keptOf s)) (linesOf s) (after-end onward enough (outcome firstRun []) s)
 
+-- the trace behind a text
 abbrev traceBehind : List ℕ → Trace
 traceBehind s = keeping (finished s .run) (keptOf s)
 

@@ -129,6 +129,7 @@ pub record BlocksReach (bs : List (List ℕ)) : Type 0 where
   -- at the end of the input: those of all lines
   pub atEnd : overBlocks bs .run .phase ≡ Running → Reaches (linesOf (takenText bs)) (overBlocks bs .run)
 
+-- for every list of blocks
 abbrev pub EveryCutReaches : Type 0
 EveryCutReaches = (bs : List (List ℕ)) → BlocksReach bs
 
