@@ -2,22 +2,24 @@
 use mathlib.Core.Path.{_≡_, refl, ap, _∙_}
 use mathlib.Core.Bool.{Bool, false, _&&_}
 use mathlib.Core.List.{List, _++_}
-use Prim.Native.Nat.{ℕ, _+_, _<_}
+use Prim.Native.Nat.{ℕ, _<_}
 use native.Mathlib.Omega.{arith}
 use borrow.Author.Needs.{needs}
 use borrow.Author.Tests.{le-leb, lt-leb}
-use lib.ListN.{length, replicate, length-append, length-take}
-use Rattle.blocks.specs.Blocks.{linesFit}
+use lib.ListN.{length, length-append, length-take}
 use Rattle.trace.specs.declared.Trace.{Trace}
 use Rattle.trace.specs.Trace.{blockMost, blockOf, isTaken, keptIn, keptMost}
 use Rattle.trace.proofs.Text.{array-length, filled-text}
 use Rattle.trace.proofs.block.Statement.{statement}
 use Rattle.trace.proofs.block.Tie as tie
 
+left-false : (t u : Bool) → t ≡ false → t && u ≡ false
+left-false t u e = ap (λ (x : Bool). x && u) e
+
 -- a block that is too long is not taken
 too-long : (t : Trace) (b : List ℕ) → blockMost < length b → isTaken t b ≡ false
 unfolding isTaken
-too-long t b h = ap (λ (x : Bool). x && linesFit (t .run .lines) (keptIn t ++ b)) (lt-leb (length b) blockMost h)
+too-long t b h = left-false _ _ (lt-leb (length b) blockMost h)
 
 returns : tie.Need-returns
 unfolding blockOf
@@ -37,7 +39,7 @@ text-is c =
     let a = e .before .before .args in
     let s = keptIn (a .trace) ++ a .block .now in
     let n = line-length (e .before .before) in
-    c .part .ensures ∙ filled-text (replicate (keptMost + blockMost) 0) s (t .put-text .ensures)
+    c .part .ensures ∙ filled-text _ s (t .put-text .ensures)
     (rw (length-append (keptIn (a .trace)) (a .block .now), length-take) (omega (arith, e .if1 .left, n)))
 
 -- a block of the right length is taken if its lines have numbers
