@@ -13,7 +13,7 @@ use Rattle.states.specs.declared.Traffic.{Traffic}
 use Rattle.traffic.specs.declared.Setup.{Setup}
 use Rattle.states.specs.State.{inNetwork, isNormal, isRepeat, settled, transmits}
 use Rattle.conditions.specs.Conditions.{larger, only, runs, trafficSound}
-use Rattle.traffic.specs.Traffic.{firstMessage, heardInNormal, heardInReady, resumed, toNormal, toReady, toRepeat, toRepeatActive, toRepeatAsked}
+use Rattle.traffic.specs.Traffic.{firstMessage, heardInNormal, heardInReady, resumed, toNormal, toReady, toRepeat, toRepeatActive, toRepeatAsked, withFast}
 use Rattle.traffic_steps.specs.TrafficSteps.{inNormal, inReady, inRepeat}
 use Rattle.sending.specs.Sending.{afterMissed, afterSent, counts, framing}
 use Rattle.sleep.proofs.Passing.{Tuned}
@@ -125,27 +125,31 @@ module _ (s : Setup) (g : Tuned (s .ticks) (s .immediate)) where
   set-free p true e = rw e
   set-free p false e = refl
 
-  pub to-repeat-asked : (m : State) (x : Traffic) → s .passive ≡ false → TrafficOk s m x → TrafficOk s RepeatMessage (toRepeatAsked s x)
-  unfolding toRepeatAsked
-  to-repeat-asked m x p o = repeat-ok x (record { repeating = set-free (s .passive) true p; waking = free o .waking })
-
-  pub to-repeat-active : (m : State) (x : Traffic) → s .passive ≡ false → TrafficOk s m x → TrafficOk s RepeatMessage (toRepeatActive s x)
-  unfolding toRepeatActive
-  to-repeat-active m x p o = go (ltb 0 (s .immediate))
+  -- fast frames: the message timer is 1, and the fast count IN
+  fast-ok : (x : Traffic) → s .passive ≡ false → TrafficOk s RepeatMessage x → TrafficOk s RepeatMessage (withFast s x)
+  fast-ok x p o = go (ltb 0 (s .immediate))
     where
-      f : Free (s .passive) (x .repeating) true
-      f = record { repeating = free o .repeating; waking = set-free (s .passive) true p }
-
-      timed : Timer (not (s .passive)) (larger (s .ticks .cycle) (s .ticks .fast)) 1
-      timed = rw p one-fits
-
       go : (t : Bool)
           → TrafficOk s RepeatMessage
-          (cond t (record { message = 1; fast = s .immediate; remote = 0; indicated = false; repeating = x .repeating; waking = true })
-          (record { message = firstMessage s; fast = 0; remote = 0; indicated = false; repeating = x .repeating; waking = true }))
+          (record { message = cond t 1 (x .message); fast = cond t (s .immediate) (x .fast); remote = x .remote; indicated = x .indicated; repeating = x .repeating; waking = x .waking })
       go true =
-          record { message = timed; fast = omega arith; remote = refl; repeating = f .repeating; waking = f .waking; indicated = refl }
-      go false = repeat-ok x f
+          record {
+            message = rw p one-fits;
+            fast = omega arith;
+            remote = o .remote;
+            repeating = o .repeating;
+            waking = o .waking;
+            indicated = o .indicated;
+          }
+      go false = o
+
+  pub to-repeat-asked : (m : State) (x : Traffic) → s .passive ≡ false → TrafficOk s m x → TrafficOk s RepeatMessage (toRepeatAsked s x)
+  unfolding toRepeatAsked toRepeat
+  to-repeat-asked m x p o = fast-ok _ p (repeat-ok x (record { repeating = set-free (s .passive) true p; waking = free o .waking }))
+
+  pub to-repeat-active : (m : State) (x : Traffic) → s .passive ≡ false → TrafficOk s m x → TrafficOk s RepeatMessage (toRepeatActive s x)
+  unfolding toRepeatActive toRepeat
+  to-repeat-active m x p o = fast-ok _ p (repeat-ok x (record { repeating = free o .repeating; waking = set-free (s .passive) true p }))
 
   -- the remote timer as it is loaded
   watched : (i : Bool) → Timer (ltb 0 (s .ticks .remote) && not i) (s .ticks .remote) (cond i 0 (s .ticks .remote))

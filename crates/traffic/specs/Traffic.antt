@@ -16,8 +16,14 @@ traffic m f r i b w = record { message = m; fast = f; remote = r; indicated = i;
 abbrev pub withMessage : ℕ → Traffic → Traffic
 withMessage m x = traffic m (x .fast) (x .remote) (x .indicated) (x .repeating) (x .waking)
 
+abbrev pub withFastCount : ℕ → Traffic → Traffic
+withFastCount f x = traffic (x .message) f (x .remote) (x .indicated) (x .repeating) (x .waking)
+
 abbrev pub withRemote : ℕ → Bool → Traffic → Traffic
 withRemote r i x = traffic (x .message) (x .fast) r i (x .repeating) (x .waking)
+
+abbrev pub withBits : Bool → Bool → Traffic → Traffic
+withBits b w x = traffic (x .message) (x .fast) (x .remote) (x .indicated) b w
 
 -- what the rules here need of the configuration
 unfoldable pub setupOf : Config → Ticks → Setup
@@ -27,19 +33,25 @@ setupOf c t = record { ticks = t; immediate = cond (ltb (c .immediate) 65536) (c
 abbrev pub firstMessage : Setup → ℕ
 firstMessage s = cond (s .passive) 0 (cond (ltb (s .ticks .offset) 1) 1 (s .ticks .offset))
 
--- Repeat: the message timer starts, fast count and remote timer are 0, an indication is cleared
+-- Repeat: the message timer starts, fast count and remote timer are 0, an indication is cleared. As it stands for a passive
+-- start-up and for a PDU: neither has fast frames
 unfoldable pub toRepeat : Setup → Traffic → Traffic
 toRepeat s x = traffic (firstMessage s) 0 0 false (x .repeating) (x .waking)
 
--- by a request: the active wakeup bit is set, and fast frames go out at once
-unfoldable pub toRepeatActive : Setup → Traffic → Traffic
-toRepeatActive s x =
-    cond (ltb 0 (s .immediate)) (traffic 1 (s .immediate) 0 false (x .repeating) true)
-    (traffic (firstMessage s) 0 0 false (x .repeating) true)
+-- fast frames, where IN is above 0: the fast count is IN, and the first goes out in the next tick
+abbrev pub hasFast : Setup → Bool
+hasFast s = ltb 0 (s .immediate)
 
--- by a repeat request: the repeat bit is set
+abbrev pub withFast : Setup → Traffic → Traffic
+withFast s x = withMessage (cond (hasFast s) 1 (x .message)) (withFastCount (cond (hasFast s) (s .immediate) (x .fast)) x)
+
+-- by a request: with fast frames, and the active wakeup bit is set
+unfoldable pub toRepeatActive : Setup → Traffic → Traffic
+toRepeatActive s x = withFast s (toRepeat s (withBits (x .repeating) true x))
+
+-- by a repeat request: with fast frames, and the repeat bit is set
 unfoldable pub toRepeatAsked : Setup → Traffic → Traffic
-toRepeatAsked s x = traffic (firstMessage s) 0 0 false true (x .waking)
+toRepeatAsked s x = withFast s (toRepeat s (withBits true (x .waking) x))
 
 -- Normal: the remote timer starts unless remote sleep is indicated
 abbrev pub watching : Setup → Traffic → ℕ

@@ -8,7 +8,7 @@ use config::Ticks;
 use states::Mode;
 use states::Traffic;
 ghost use mathlib.Core.Path.{_≡_};
-ghost use Rattle.traffic.specs.Traffic.{firstMessage, heardInNormal, heardInReady, resumed, setupOf, toNormal, toReady, toRepeat, toRepeatActive, toRepeatAsked, watching};
+ghost use Rattle.traffic.specs.Traffic.{firstMessage, heardInNormal, heardInReady, resumed, setupOf, toNormal, toReady, toRepeat, toRepeatActive, toRepeatAsked, watching, withFast};
 
 // What the rules here need of the configuration.
 pub struct Setup {
@@ -48,17 +48,21 @@ pub fn to_repeat(s: Setup, x: Traffic) -> Traffic
     y
 }
 
+fn fast_frames(s: Setup, x: Traffic) -> Traffic
+    ensures { λ r. ⌜ r ≡ withFast s x ⌝ }
+{
+    let mut y = x;
+    y.message = choice::pick16(0 < s.immediate, 1, x.message);
+    y.fast = choice::pick16(0 < s.immediate, s.immediate, x.fast);
+    y
+}
+
 pub fn to_repeat_active(s: Setup, x: Traffic) -> Traffic
     ensures { λ r. ⌜ r ≡ toRepeatActive s x ⌝ }
 {
     let mut y = to_repeat(s, x);
     y.waking = true;
-    if 0 < s.immediate {
-        y.message = 1;
-        y.fast = s.immediate;
-        return y;
-    }
-    y
+    fast_frames(s, y)
 }
 
 pub fn to_repeat_asked(s: Setup, x: Traffic) -> Traffic
@@ -66,7 +70,7 @@ pub fn to_repeat_asked(s: Setup, x: Traffic) -> Traffic
 {
     let mut y = to_repeat(s, x);
     y.repeating = true;
-    y
+    fast_frames(s, y)
 }
 
 // The remote timer where Normal Operation starts it.
