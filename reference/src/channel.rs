@@ -398,10 +398,7 @@ impl Channel {
                 State::BusSleep | State::PrepareBusSleep => {
                     channel.enter_network_mode(&mut reply.notes);
                     channel.active_wakeup_bit = true;
-                    if channel.config.fast_count > 0 {
-                        channel.fast_count = channel.config.fast_count;
-                        channel.message_timer = 1;
-                    }
+                    channel.begin_fast_frames();
                 }
                 State::ReadySleep => {
                     channel.enter_normal();
@@ -434,8 +431,8 @@ impl Channel {
         })
     }
 
-    /// Asks all nodes for Repeat. Answers 4 on a passive channel, then 3
-    /// outside Normal and Ready.
+    /// Asks all nodes for Repeat, in fast frames where there are any. Answers 4
+    /// on a passive channel, then 3 outside Normal and Ready.
     pub fn repeat_message_request(&mut self) -> Reply {
         let needs = Needs {
             state_fits: self.in_normal_or_ready(),
@@ -444,6 +441,7 @@ impl Channel {
         self.answer(needs, |channel, reply| {
             channel.enter_repeat(&mut reply.notes);
             channel.repeat_bit = true;
+            channel.begin_fast_frames();
         })
     }
 
@@ -643,6 +641,15 @@ impl Channel {
         }
         self.remote_timer = 0;
         self.cancel_indication(notes);
+    }
+
+    /// In Repeat, just entered by a network or repeat request: the first of the
+    /// fast frames, if any, is due in the next tick, whatever the offset.
+    fn begin_fast_frames(&mut self) {
+        if self.config.fast_count > 0 {
+            self.fast_count = self.config.fast_count;
+            self.message_timer = 1;
+        }
     }
 
     /// From Repeat, whose message timer goes on, or from Ready.

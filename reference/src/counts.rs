@@ -162,6 +162,11 @@ cases! {
     LowerName "unreadable line: name in lower case"
     SecondCfg "unreadable line: CFG line further down"
     SecondPn "unreadable line: PN line further down"
+    RequestFastNormal "RMR: done in N, fast frames configured"
+    RequestFastReady "RMR: done in S, fast frames configured"
+    RequestFastNotTaken "RMR: done, then first fast frame not taken"
+    PduFastNormal "RX: N to R, fast frames configured"
+    PduFastReady "RX: S to R, fast frames configured"
     Dropped "RX: dropped in Bus-Sleep"
     FilterOn "RX: filter on"
     TickDisabled "T: sending disabled"
@@ -317,20 +322,29 @@ pub fn lines_of(text: &[u8]) -> impl Iterator<Item = &[u8]> {
 
 /// What is known of a channel on the way through a trace.
 struct Followed {
+    /// Whether it is active and has fast frames.
+    fast: bool,
     state: State,
     disabled: bool,
     filter_on: bool,
+    /// Whether the line before was a repeat request that makes a fast frame due
+    /// in the next tick.
+    fast_due: bool,
     /// Ticks since any other line.
     ticks: u64,
 }
 
 impl Followed {
-    const START: Followed = Followed {
-        state: State::BusSleep,
-        disabled: false,
-        filter_on: false,
-        ticks: 0,
-    };
+    fn new(fast: bool) -> Followed {
+        Followed {
+            fast,
+            state: State::BusSleep,
+            disabled: false,
+            filter_on: false,
+            fast_due: false,
+            ticks: 0,
+        }
+    }
 }
 
 /// How often each kind was seen.
@@ -380,14 +394,14 @@ impl Counts {
             Some(_) => Case::NoLastFeed,
         }));
         let lines: Vec<&[u8]> = lines_of(text).collect();
-        let calls_from = self.see_config(&lines);
+        let (calls_from, fast) = self.see_config(&lines);
         let calls = lines.get(calls_from..).unwrap_or(&[]);
         // Line 1 prints one line, and so does each call.
         let expected = lines.len().min(1) + calls.len();
         if printed.len() != expected {
             return Err(printed.len().min(expected) + 1);
         }
-        let mut followed = Followed::START;
+        let mut followed = Followed::new(fast);
         let numbers = calls_from as u64 + 1..;
         for ((number, line), (place, printed)) in
             numbers.zip(calls).zip((1..).zip(&printed).skip(1))
@@ -425,17 +439,19 @@ impl Counts {
     }
 
     /// Counts the configuration; gives the number of lines before the calls,
-    /// which is that of all lines if the run ends.
-    fn see_config(&mut self, lines: &[&[u8]]) -> usize {
+    /// which is that of all lines if the run ends, and whether the channel is
+    /// active and has fast frames.
+    fn see_config(&mut self, lines: &[&[u8]]) -> (usize, bool) {
+        let run_ends = (lines.len(), false);
         let Some(first) = lines.first() else {
-            return 0;
+            return run_ends;
         };
         let config = match read_cfg(first) {
             Ok(config) => config,
             Err(reason) => {
                 self.see_unreadable(Place::Cfg, reason, first);
                 self.see_if(lines.len() > 1, Case::AfterEnd);
-                return lines.len();
+                return run_ends;
             }
         };
         let is_number = |field: &[u8]| field.len() == MAX_DIGITS && field != b"CFG";
@@ -456,7 +472,7 @@ impl Counts {
                 self.see_unreadable(Place::Pn, reason, line);
                 self.see_if(first_broken_rule(&config) != 0, Case::RefusedBehindPn);
                 self.see_if(lines.len() > 2, Case::AfterEnd);
-                return lines.len();
+                return run_ends;
             }
         };
         let config_lines = 1 + usize::from(pn_line.is_some());
@@ -466,14 +482,14 @@ impl Counts {
                 self.see_settings(&config);
                 let until_asleep = times.repeat + times.timeout + times.wait;
                 self.see_if(until_asleep > LONG, Case::LongTimes);
-                config_lines
+                (config_lines, config.fast_count > 0 && !config.passive)
             }
             Err(rule) => {
                 self.see(Kind::Rule(rule));
                 self.see_if(pn_line.is_none(), Case::RefusedAlone);
                 self.see_if(pn_line.is_some(), Case::RefusedPn);
                 self.see_if(lines.len() > config_lines, Case::AfterEnd);
-                lines.len()
+                run_ends
             }
         }
     }
@@ -503,6 +519,7 @@ impl Counts {
 
     fn see_call(&mut self, line: &[u8], printed: &Printed<'_>, followed: &mut Followed) {
         let before = followed.state;
+        let fast_due = std::mem::take(&mut followed.fast_due);
         followed.state = printed.state.unwrap_or(before);
         self.see(Kind::Step(before, followed.state));
         let mut room = [0; MAX_HEX_BYTES];
@@ -522,7 +539,15 @@ impl Counts {
             self.see(Kind::CalledIn(words, before));
         }
         let done = printed.answer == DONE;
+        let fast_in_repeat = followed.fast && followed.state == State::RepeatMessage;
+        let from_normal = before == State::NormalOperation;
+        let from_ready = before == State::ReadySleep;
         match call {
+            Call::RepeatMessageRequest if done => {
+                self.see_if(fast_in_repeat && from_normal, Case::RequestFastNormal);
+                self.see_if(fast_in_repeat && from_ready, Case::RequestFastReady);
+                followed.fast_due = fast_in_repeat && !followed.disabled;
+            }
             Call::DisableCommunication if done => followed.disabled = true,
             Call::EnableCommunication if done => followed.disabled = false,
             Call::ConfirmPnAvailability if done => followed.filter_on = true,
@@ -532,9 +557,15 @@ impl Counts {
                 // Every PDU that is accepted there is noted.
                 let asleep = before == State::BusSleep;
                 self.see_if(done && asleep && !printed.has(Note::ST), Case::Dropped);
+                // Only one with the repeat bit leads from there to Repeat.
+                self.see_if(fast_in_repeat && from_normal, Case::PduFastNormal);
+                self.see_if(fast_in_repeat && from_ready, Case::PduFastReady);
             }
-            Call::MainFunction { .. } => {
+            Call::MainFunction { taken, .. } => {
                 self.see_if(followed.disabled, Case::TickDisabled);
+                // The tick that leaves Repeat has no fast frame any more.
+                let missed = fast_due && fast_in_repeat && !taken;
+                self.see_if(missed, Case::RequestFastNotTaken);
                 followed.ticks += 1;
                 self.see_if(followed.ticks == LONG_RUN, Case::LongRun);
                 return;

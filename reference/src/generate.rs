@@ -616,7 +616,26 @@ impl Maker<'_> {
                 let ticks = times.repeat + times.timeout + in_prepare;
                 self.put_ticks(ticks.min(20 * FEW_TICKS));
             }
-            26..=58 => {
+            26 => {
+                // What leads to Normal or Ready from nearly everywhere, and may
+                // lead back to Repeat.
+                if self.rng.chance(2) {
+                    self.put_name("REQ");
+                } else {
+                    self.put_name("REL");
+                    self.put_name("PAS");
+                }
+                let in_repeat = times.repeat.min(10 * FEW_TICKS);
+                self.put_ticks(in_repeat);
+                let line = if self.rng.chance(2) {
+                    fields(&["RMR"])
+                } else {
+                    self.received()
+                };
+                self.put(&line);
+                self.put_ticks(in_repeat);
+            }
+            27..=58 => {
                 let line = self.call();
                 self.put(&line);
             }

@@ -394,13 +394,199 @@ fn fast_frames_after_a_request() {
     bench.lines(TICK, &[none, none]);
     bench.lines(TICK, &["0 N - -", "0 N - 2110FFFFFFFFFFFF"]);
 
-    // Any other way into Repeat goes by the offset.
+    // Woken without a request, the channel goes by the offset, and a later
+    // request does not change that.
     let mut bench = Bench::new(&cfg);
     assert_eq!(bench.line(PassiveStartUp), "0 R NM -");
     assert_eq!(bench.line(NetworkRequest), "0 R - -");
     bench.lines(TICK, &["0 R - -", "0 R - 2100FFFFFFFFFFFF"]);
     bench.lines(TICK, &["0 R - -"; 3]);
     bench.lines(TICK, &["0 R - 2100FFFFFFFFFFFF"]);
+}
+
+/// Two fast frames. In ticks R is 7, C 3, O 2 and IC 2.
+const FAST: Config = Config {
+    timeout: 900,
+    repeat: 70,
+    cycle: 30,
+    offset: 20,
+    fast_count: 2,
+    fast_cycle: 20,
+    ..PLAIN
+};
+
+/// A frame in Repeat without the repeat bit, one with it, and none.
+const PLAIN_FRAME: &str = "0 R - 2100FFFFFFFFFFFF";
+const REPEAT_FRAME: &str = "0 R - 2101FFFFFFFFFFFF";
+const NO_FRAME: &str = "0 R - -";
+
+/// The same channel in Normal and in Ready, woken without fast frames.
+fn in_normal_and_ready(cfg: &Config) -> [Bench; 2] {
+    [State::NormalOperation, State::ReadySleep].map(|state| {
+        let mut bench = Bench::new(cfg);
+        bench.line(PassiveStartUp);
+        if state == State::NormalOperation {
+            bench.line(NetworkRequest);
+        }
+        while bench.channel.state == State::RepeatMessage {
+            bench.line(TICK);
+        }
+        assert_eq!(bench.channel.state, state);
+        bench
+    })
+}
+
+#[test]
+fn fast_frames_after_a_repeat_request() {
+    let [mut normal, mut ready] = in_normal_and_ready(&FAST);
+    for bench in [&mut normal, &mut ready] {
+        bench.lines(RepeatMessageRequest, &[NO_FRAME]);
+        assert_eq!(bench.channel.fast_count, 2);
+        assert_eq!(bench.channel.message_timer, 1);
+        bench.lines(TICK, &[REPEAT_FRAME, NO_FRAME, REPEAT_FRAME]);
+        assert_eq!(bench.channel.fast_count, 0);
+        bench.lines(TICK, &[NO_FRAME, NO_FRAME, REPEAT_FRAME]);
+    }
+    normal.lines(TICK, &["0 N - -", "0 N - -", "0 N - 2100FFFFFFFFFFFF"]);
+    // Not requested, the channel sends them all the same, then no more.
+    ready.lines(TICK, &["0 S - -"; 10]);
+
+    // Leaving Repeat drops what is left of them.
+    let many = Config {
+        fast_count: 255,
+        ..FAST
+    };
+    let [mut normal, mut ready] = in_normal_and_ready(&many);
+    for bench in [&mut normal, &mut ready] {
+        bench.lines(RepeatMessageRequest, &[NO_FRAME]);
+        for _ in 0..3 {
+            bench.lines(TICK, &[REPEAT_FRAME, NO_FRAME]);
+        }
+        assert_eq!(bench.channel.fast_count, 252);
+    }
+    normal.lines(TICK, &["0 N - 2100FFFFFFFFFFFF", "0 N - -", "0 N - -"]);
+    normal.lines(TICK, &["0 N - 2100FFFFFFFFFFFF"]);
+    ready.lines(TICK, &["0 S - -"; 10]);
+}
+
+#[test]
+fn fast_frames_after_a_repeat_request_not_taken() {
+    for mut bench in in_normal_and_ready(&FAST) {
+        bench.lines(RepeatMessageRequest, &[NO_FRAME]);
+        bench.lines(BUSY, &[NO_FRAME, NO_FRAME]);
+        assert_eq!(bench.channel.fast_count, 2);
+        bench.lines(TICK, &[REPEAT_FRAME, NO_FRAME]);
+        bench.lines(BUSY, &[NO_FRAME]);
+        bench.lines(TICK, &[REPEAT_FRAME]);
+        assert_eq!(bench.channel.message_timer, 3);
+    }
+
+    // After the only one, a busy driver costs a whole cycle.
+    let single = Config {
+        fast_count: 1,
+        ..FAST
+    };
+    for mut bench in in_normal_and_ready(&single) {
+        bench.lines(RepeatMessageRequest, &[NO_FRAME]);
+        bench.lines(BUSY, &[NO_FRAME]);
+        bench.lines(TICK, &[REPEAT_FRAME, NO_FRAME, NO_FRAME]);
+        bench.lines(BUSY, &[NO_FRAME]);
+        assert_eq!(bench.channel.message_timer, 3);
+    }
+}
+
+#[test]
+fn a_repeat_request_without_fast_frames_goes_by_the_offset() {
+    let cfg = Config {
+        fast_count: 0,
+        ..FAST
+    };
+    for mut bench in in_normal_and_ready(&cfg) {
+        bench.lines(RepeatMessageRequest, &[NO_FRAME]);
+        assert_eq!(bench.channel.fast_count, 0);
+        bench.lines(TICK, &[NO_FRAME, REPEAT_FRAME, NO_FRAME, NO_FRAME]);
+        bench.lines(TICK, &[REPEAT_FRAME]);
+    }
+}
+
+#[test]
+fn a_pdu_with_the_repeat_bit_starts_no_fast_frames() {
+    for mut bench in in_normal_and_ready(&FAST) {
+        bench.lines(RxIndication(&REPEAT_PDU), &[NO_FRAME]);
+        assert_eq!(bench.channel.fast_count, 0);
+        bench.lines(TICK, &[NO_FRAME, PLAIN_FRAME, NO_FRAME, NO_FRAME]);
+        bench.lines(TICK, &[PLAIN_FRAME]);
+    }
+    // Nor does it end those of a repeat request, or start them anew.
+    for mut bench in in_normal_and_ready(&FAST) {
+        bench.lines(RepeatMessageRequest, &[NO_FRAME]);
+        bench.lines(TICK, &[REPEAT_FRAME]);
+        bench.lines(RxIndication(&REPEAT_PDU), &[NO_FRAME]);
+        assert_eq!(bench.channel.fast_count, 1);
+        bench.lines(TICK, &[NO_FRAME, REPEAT_FRAME, NO_FRAME, NO_FRAME]);
+        bench.lines(TICK, &[REPEAT_FRAME]);
+    }
+}
+
+#[test]
+fn a_refused_repeat_request_leaves_fast_frames_alone() {
+    let refused = "3 R - -";
+    // Those of a request.
+    let mut bench = Bench::new(&FAST);
+    bench.line(NetworkRequest);
+    bench.lines(RepeatMessageRequest, &[refused]);
+    bench.lines(TICK, &["0 R - 2110FFFFFFFFFFFF"]);
+    let before = bench.channel;
+    assert_eq!(before.fast_count, 1);
+    bench.lines(RepeatMessageRequest, &[refused]);
+    assert_eq!(bench.channel, before);
+    bench.lines(TICK, &[NO_FRAME, "0 R - 2110FFFFFFFFFFFF"]);
+    bench.lines(RepeatMessageRequest, &[refused]);
+    assert_eq!(bench.channel.fast_count, 0);
+
+    // Those of a repeat request before it.
+    for mut bench in in_normal_and_ready(&FAST) {
+        bench.lines(RepeatMessageRequest, &[NO_FRAME, refused]);
+        bench.lines(TICK, &[REPEAT_FRAME]);
+        let before = bench.channel;
+        assert_eq!(before.fast_count, 1);
+        bench.lines(RepeatMessageRequest, &[refused]);
+        assert_eq!(bench.channel, before);
+    }
+
+    // None are started where none run.
+    let mut bench = Bench::new(&FAST);
+    bench.line(PassiveStartUp);
+    bench.lines(RepeatMessageRequest, &[refused]);
+    assert_eq!(bench.channel.fast_count, 0);
+    bench.lines(TICK, &[NO_FRAME, PLAIN_FRAME]);
+}
+
+#[test]
+fn fast_frames_after_a_repeat_request_while_disabled() {
+    for mut bench in in_normal_and_ready(&FAST) {
+        bench.line(DisableCommunication);
+        bench.lines(RepeatMessageRequest, &[NO_FRAME]);
+        bench.lines(TICK, &[NO_FRAME, NO_FRAME]);
+        assert_eq!(bench.channel.fast_count, 2);
+        bench.lines(EnableCommunication, &[NO_FRAME]);
+        bench.lines(TICK, &[REPEAT_FRAME, NO_FRAME, REPEAT_FRAME]);
+        assert_eq!(bench.channel.message_timer, 3);
+    }
+
+    // Repeat ends meanwhile, and they with it.
+    let [mut normal, mut ready] = in_normal_and_ready(&FAST);
+    for bench in [&mut normal, &mut ready] {
+        bench.line(DisableCommunication);
+        bench.lines(RepeatMessageRequest, &[NO_FRAME]);
+        bench.lines(TICK, &[NO_FRAME; 6]);
+        bench.line(TICK);
+        bench.line(EnableCommunication);
+        assert_eq!(bench.channel.fast_count, 0);
+    }
+    normal.lines(TICK, &["0 N - 2100FFFFFFFFFFFF", "0 N - -", "0 N - -"]);
+    normal.lines(TICK, &["0 N - 2100FFFFFFFFFFFF"]);
+    ready.lines(TICK, &["0 S - -"; 10]);
 }
 
 #[test]
