@@ -109,8 +109,11 @@ cases! { Act, "branches of the other calls, answer 0", {
     ReleaseNormal "release: Normal to Ready"
     ReleaseIndicated "release: Normal to Ready, indicated"
     ReleaseRepeat "release: in Repeat, requested"
-    RepeatNormal "repeat request: from Normal"
-    RepeatReady "repeat request: from Ready"
+    RepeatNormal "repeat request: from Normal, IN = 0"
+    RepeatNormalFast "repeat request: from Normal, IN above 0"
+    RepeatReady "repeat request: from Ready, IN = 0"
+    RepeatReadyFast "repeat request: from Ready, IN above 0"
+    RepeatDisabledFast "repeat request: sending disabled, IN above 0"
     RepeatCancels "repeat request: an indication is taken back"
     Disables "disable: sending was enabled"
     DisablesAgain "disable: disabled already"
@@ -139,6 +142,7 @@ cases! { Act, "branches of the other calls, answer 0", {
     HearsCancelsReady "PDU: in Ready, indication taken back"
     HearsAskedNormal "PDU: CBV bit 0 in Normal"
     HearsAskedReady "PDU: CBV bit 0 in Ready"
+    HearsAskedFast "PDU: CBV bit 0 in Normal or Ready, IN above 0"
     HearsAskedCancels "PDU: CBV bit 0, indication taken back"
     FilterOn "confirm-PN: the filter was off"
     FilterAgain "confirm-PN: the filter is on already"
@@ -524,11 +528,16 @@ impl Counts {
                 _ => {}
             },
             RMR => {
-                add(if state == NormalOperation {
-                    RepeatNormal
-                } else {
-                    RepeatReady
+                let fast = cfg.fast_count > 0;
+                add(match (state, fast) {
+                    (NormalOperation, false) => RepeatNormal,
+                    (NormalOperation, true) => RepeatNormalFast,
+                    (_, false) => RepeatReady,
+                    (_, true) => RepeatReadyFast,
                 });
+                if before.disabled && fast {
+                    add(RepeatDisabledFast);
+                }
                 if before.indicated {
                     add(RepeatCancels);
                 }
@@ -617,6 +626,9 @@ impl Counts {
         }
         if asked && cancels {
             add(HearsAskedCancels);
+        }
+        if asked && matches!(state, NormalOperation | ReadySleep) && cfg.fast_count > 0 {
+            add(HearsAskedFast);
         }
     }
 
