@@ -51,7 +51,7 @@ function judge_error(    place, said, short) {
         return verdict("unfit", "the proof answers another need than the edited code has (" place ": " said ")")
     if (said ~ /is not in scope/ && said !~ /is not in scope here/)
         return verdict("unfit", "a name is not known (" place ": " said ")")
-    if (said ~ /no occurrence of the path/)
+    if (said ~ /no occurrence of the path/ || said ~ /`rw`: no part of the goal/)
         return verdict("unfit", "a step of the proof finds nothing to rewrite in the edited code (" place ": " said ")")
     if (said ~ /is in a cycle of calls/)
         return verdict("unfit", "the edited code calls in a cycle, and the proof is for code that does not (" place ": " said ")")

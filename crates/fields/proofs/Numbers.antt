@@ -53,11 +53,16 @@ module _ (s : List ℕ) where
     unfolding decimalOf
     decimal-long h = rw (ne-eqb (length s) 0 some, lt-ltb fieldDigitsMost (length s) h)
 
-    module _ (short : length s ≤ fieldDigitsMost) where
-      pub decimal-zero : 1 < length s → getD s 0 0 ≡ 48 → unreadable ≡ decimalOf s
-      unfolding decimalOf
-      decimal-zero h e = rw (ne-eqb (length s) 0 some, le-ltb fieldDigitsMost (length s) short, lt-ltb 1 (length s) h, eq-eqb (getD s 0 0) 48 e)
+    pub decimal-zero : 1 < length s → getD s 0 0 ≡ 48 → unreadable ≡ decimalOf s
+    unfolding decimalOf
+    decimal-zero h e =
+        rw (ne-eqb (length s) 0 some, lt-ltb 1 (length s) h, eq-eqb (getD s 0 0) 48 e) (either (ltb fieldDigitsMost (length s)))
+      where
+        either : (t : Bool) → unreadable ≡ cond t unreadable unreadable
+        either true = refl
+        either false = refl
 
+    module _ (short : length s ≤ fieldDigitsMost) where
       pub decimal-more : 1 < length s → (getD s 0 0 ≡ 48 → ⊥) → numberFrom 0 s ≡ decimalOf s
       unfolding decimalOf
       decimal-more h e = rw (ne-eqb (length s) 0 some, le-ltb fieldDigitsMost (length s) short, lt-ltb 1 (length s) h, ne-eqb (getD s 0 0) 48 e)

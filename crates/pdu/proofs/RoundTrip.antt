@@ -261,7 +261,7 @@ record Seen (c : Config) (pdu pn user : List ℕ) : Type 0 where
 
 seen : (c : Config) (pdu pn user : List ℕ) → reading c pdu pn user .answer ≡ Done → Seen c pdu pn user
 unfolding reading
-seen c pdu pn user = go (eqb (firstBroken c) 0) fit refl refl
+seen c pdu pn user = go (eqb (firstBroken c) 0) fit _ _ refl refl
   where
     lengths : Bool
     lengths = ofLengths c (length pn) (length user)
@@ -269,17 +269,17 @@ seen c pdu pn user = go (eqb (firstBroken c) 0) fit refl refl
     fit : Bool
     fit = lengths && eqb (length pdu) (c .layout .length)
 
-    go : (t r : Bool) → eqb (firstBroken c) 0 ≡ t → fit ≡ r
-        → cond t (cond r (taken Done (fieldsOf c pdu)) (taken Length (fields 0 0 pn user))) (taken (Rule (firstBroken c)) (fields 0 0 pn user)) .answer ≡ Done
+    go : (t r : Bool) (x y : Fields) → eqb (firstBroken c) 0 ≡ t → fit ≡ r
+        → cond t (cond r (taken Done (fieldsOf c pdu)) (taken Length x)) (taken (Rule (firstBroken c)) y) .answer ≡ Done
         → Seen c pdu pn user
-    go true true e g d =
+    go true true x y e g d =
         record {
           whole = eqb-true (firstBroken c) 0 e;
           size = eqb-true (length pdu) (c .layout .length) (and-right lengths (eqb (length pdu) (c .layout .length)) g);
           is = rw (e, g);
         }
-    go true false e g d = absurd (let z : _≡_ {A = ℕ} 0 1 = cc in omega arith)
-    go false r e g d = absurd (let z : _≡_ {A = ℕ} 0 1 = cc in omega arith)
+    go true false x y e g d = absurd (let z : _≡_ {A = ℕ} 0 1 = cc in omega arith)
+    go false r x y e g d = absurd (let z : _≡_ {A = ℕ} 0 1 = cc in omega arith)
 
 -- where nothing is refused
 composes : (c : Config) (f : Fields) (frame : List ℕ) → firstBroken c ≡ 0 → length (f .pn) ≡ c .pn .length

@@ -9,15 +9,15 @@ returns : tie.Need-returns
 returns c = decimal-empty _ (c .if1 .taken)
 
 returns-2 : tie.Need-returns-2
-returns-2 c = decimal-long _ (c .before .if1 .left) (c .if2 .taken)
+returns-2 c = decimal-long _ (c .before .if1 .left) (omega (arith, c .if2 .taken))
 
 returns-3 : tie.Need-returns-3
-returns-3 c = let b = c .before .before .before in decimal-zero _ (b .before .if1 .left) (b .if2 .left) (c .before .before .if3 .taken) (c .if4 .taken)
+returns-3 c = decimal-zero _ (c .before .before .before .before .if1 .left) (omega (arith, c .before .before .if3 .taken)) (c .if4 .taken)
 
 returns-4 : tie.Need-returns-4
 returns-4 c =
     let b = c .before .before .before .before in
-    c .digits .ensures ∙ decimal-more _ (b .before .if1 .left) (b .if2 .left) (c .before .before .before .if3 .taken) (c .before .if4 .left)
+    c .digits .ensures ∙ decimal-more _ (b .before .if1 .left) (b .if2 .left) (omega (arith, c .before .before .before .if3 .taken)) (c .before .if4 .left)
 
 returns-5 : tie.Need-returns-5
 returns-5 c = let b = c .before .before in c .digits2 .ensures ∙ decimal-one _ (b .before .if1 .left) (b .if2 .left) (c .before .if3 .left)

@@ -19,7 +19,7 @@ returns : tie.Need-returns Inv-loop μ-loop
 returns c = sym (c .before .before .before .loop .inv .0 ∙ number-low _ _ _ (c .before .before .loop-test .taken) (c .if1 .taken))
 
 returns-2 : tie.Need-returns-2 Inv-loop μ-loop
-returns-2 c = let b = c .before .before in sym (b .before .before .loop .inv .0 ∙ number-high _ _ _ (b .before .loop-test .taken) (c .before .if1 .left) (c .if2 .taken))
+returns-2 c = let b = c .before .before in sym (b .before .before .loop .inv .0 ∙ number-high _ _ _ (b .before .loop-test .taken) (c .before .if1 .left) (omega (arith, c .if2 .taken)))
 
 loop-again : tie.Need-loop-again Inv-loop μ-loop
 loop-again c =

@@ -20,8 +20,8 @@ loop-again : tie.Need-loop-again Inv-loop μ-loop
 loop-again c =
     let l = c .before .before .loop in
     let a = c .before .before .before .before .before .args in (
-      l .inv .0 ∙ last-digit (l .out) (a .at) (l .m) (l .i) (omega arith) (c .before .loop-test .taken) (l .inv .1) (c .digit .ensures),
-      one-less (l .out) (a .at) (l .m) (l .i) (omega arith) (c .before .loop-test .taken) (l .inv .1),
+      l .inv .0 ∙ last-digit (l .out) (a .at) (l .m) (l .i) (omega arith) (omega (arith, c .before .loop-test .taken)) (l .inv .1) (c .digit .ensures),
+      one-less (l .out) (a .at) (l .m) (l .i) (omega arith) (omega (arith, c .before .loop-test .taken)) (l .inv .1),
       simp length-set (omega arith),
       omega arith,
     )
@@ -40,7 +40,7 @@ put-number-spec =
     (λ c κs. tt)
     (λ c. omega (arith, length-number (c .before .before .args .n)))
     (λ c. (refl, omega arith, refl, omega arith))
-    (λ c. omega (arith, length-long (c .before .loop .m) (omega arith) (c .loop-test .taken)))
+    (λ c. omega (arith, length-long (c .before .loop .m) (omega arith) (omega (arith, c .loop-test .taken))))
     (λ c κs. omega arith)
     (λ c. omega (arith, length-number (c .before .before .loop .m)))
     (λ c. omega arith)

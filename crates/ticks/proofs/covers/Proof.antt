@@ -11,7 +11,7 @@ mul-lasts : tie.Need-mul-lasts
 mul-lasts c = let a = c .args in omega (arith, mul-le-mul-left {m = a .period} {n = periodMost} (a .count) (c .pre .0))
 
 returns : tie.Need-returns
-returns c = let a = c .before .args in rw (le-leb (a .ms) (a .count * a .period) (c .if1 .taken))
+returns c = let a = c .before .args in rw (le-leb (a .ms) (a .count * a .period) (omega (arith, c .if1 .taken)))
 
 returns-2 : tie.Need-returns-2
 returns-2 c = let a = c .before .args in rw (lt-leb (a .ms) (a .count * a .period) (c .if1 .left))

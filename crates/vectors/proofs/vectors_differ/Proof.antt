@@ -1,6 +1,6 @@
 -- `vectors::vectors_differ` meets its contract: `found` says whether one of the first `i` bits differs. Assumes nothing.
-use mathlib.Core.Path.{_≡_, refl}
-use mathlib.Core.Bool.{xor}
+use mathlib.Core.Path.{_≡_, ap, refl}
+use mathlib.Core.Bool.{Bool, _||_, xor}
 use Prim.Native.Nat.{_-_, _≤_}
 use native.Mathlib.Omega.{arith}
 use borrow.Author.Needs.{needs}
@@ -22,7 +22,7 @@ abbrev μ-loop : tie.MeasureT-loop
 loop-again : tie.Need-loop-again Inv-loop μ-loop
 loop-again c =
     let l = c .before .before .before .loop in
-    (omega arith, any-more _ (l .i) (l .inv .1) (rw (c .timer-at .ensures, xor-is _ _)))
+    (omega arith, any-more _ (l .i) (l .inv .1) (rw (c .timer-at .ensures) (ap (λ (t : Bool). l .found || t) (xor-is _ _))))
 
 returns : tie.Need-returns Inv-loop μ-loop
 unfolding vectorsDiffer
