@@ -13,7 +13,7 @@ use Rattle.states.specs.declared.Traffic.{Traffic}
 use Rattle.traffic.specs.declared.Setup.{Setup}
 use Rattle.states.specs.State.{inNetwork, isNormal, isRepeat, settled, transmits}
 use Rattle.conditions.specs.Conditions.{larger, only, runs, trafficSound}
-use Rattle.traffic.specs.Traffic.{firstMessage, heardInNormal, heardInReady, resumed, toNormal, toReady, toRepeat, toRepeatActive, toRepeatAsked, withFast}
+use Rattle.traffic.specs.Traffic.{firstMessage, hasFast, heardInNormal, heardInReady, resumed, toNormal, toReady, toRepeat, toRepeatActive, toRepeatAsked, withFast}
 use Rattle.traffic_steps.specs.TrafficSteps.{inNormal, inReady, inRepeat}
 use Rattle.sending.specs.Sending.{afterMissed, afterSent, counts, framing}
 use Rattle.sleep.proofs.Passing.{Tuned}
@@ -127,7 +127,7 @@ module _ (s : Setup) (g : Tuned (s .ticks) (s .immediate)) where
 
   -- fast frames: the message timer is 1, and the fast count IN
   fast-ok : (x : Traffic) → s .passive ≡ false → TrafficOk s RepeatMessage x → TrafficOk s RepeatMessage (withFast s x)
-  fast-ok x p o = go (ltb 0 (s .immediate))
+  fast-ok x p o = go (hasFast s)
     where
       go : (t : Bool)
           → TrafficOk s RepeatMessage

@@ -33,8 +33,8 @@ setupOf c t = record { ticks = t; immediate = cond (ltb (c .immediate) 65536) (c
 abbrev pub firstMessage : Setup → ℕ
 firstMessage s = cond (s .passive) 0 (cond (ltb (s .ticks .offset) 1) 1 (s .ticks .offset))
 
--- Repeat: the message timer starts, fast count and remote timer are 0, an indication is cleared. As it stands for a passive
--- start-up and for a PDU: neither has fast frames
+-- Repeat: the message timer starts, fast count and remote timer are 0, an indication is cleared. A passive start-up and a PDU
+-- with the repeat bit do no more: they start no fast frames
 unfoldable pub toRepeat : Setup → Traffic → Traffic
 toRepeat s x = traffic (firstMessage s) 0 0 false (x .repeating) (x .waking)
 

@@ -51,9 +51,10 @@ pub fn to_repeat(s: Setup, x: Traffic) -> Traffic
 fn fast_frames(s: Setup, x: Traffic) -> Traffic
     ensures { λ r. ⌜ r ≡ withFast s x ⌝ }
 {
+    let any = 0 < s.immediate;
     let mut y = x;
-    y.message = choice::pick16(0 < s.immediate, 1, x.message);
-    y.fast = choice::pick16(0 < s.immediate, s.immediate, x.fast);
+    y.message = choice::pick16(any, 1, x.message);
+    y.fast = choice::pick16(any, s.immediate, x.fast);
     y
 }
 
