@@ -436,6 +436,14 @@ fn in_normal_and_ready(cfg: &Config) -> [Bench; 2] {
     })
 }
 
+/// The channel of each after Repeat, its fast frames dropped: it sends at once
+/// and then each cycle in Normal, and not at all in Ready.
+fn sends_by_the_cycle([mut normal, mut ready]: [Bench; 2]) {
+    normal.lines(TICK, &["0 N - 2100FFFFFFFFFFFF", "0 N - -", "0 N - -"]);
+    normal.lines(TICK, &["0 N - 2100FFFFFFFFFFFF"]);
+    ready.lines(TICK, &["0 S - -"; 10]);
+}
+
 #[test]
 fn fast_frames_after_a_repeat_request() {
     let [mut normal, mut ready] = in_normal_and_ready(&FAST);
@@ -456,17 +464,15 @@ fn fast_frames_after_a_repeat_request() {
         fast_count: 255,
         ..FAST
     };
-    let [mut normal, mut ready] = in_normal_and_ready(&many);
-    for bench in [&mut normal, &mut ready] {
+    let mut both = in_normal_and_ready(&many);
+    for bench in &mut both {
         bench.lines(RepeatMessageRequest, &[NO_FRAME]);
         for _ in 0..3 {
             bench.lines(TICK, &[REPEAT_FRAME, NO_FRAME]);
         }
         assert_eq!(bench.channel.fast_count, 252);
     }
-    normal.lines(TICK, &["0 N - 2100FFFFFFFFFFFF", "0 N - -", "0 N - -"]);
-    normal.lines(TICK, &["0 N - 2100FFFFFFFFFFFF"]);
-    ready.lines(TICK, &["0 S - -"; 10]);
+    sends_by_the_cycle(both);
 }
 
 #[test]
@@ -575,8 +581,8 @@ fn fast_frames_after_a_repeat_request_while_disabled() {
     }
 
     // Repeat ends meanwhile, and they with it.
-    let [mut normal, mut ready] = in_normal_and_ready(&FAST);
-    for bench in [&mut normal, &mut ready] {
+    let mut both = in_normal_and_ready(&FAST);
+    for bench in &mut both {
         bench.line(DisableCommunication);
         bench.lines(RepeatMessageRequest, &[NO_FRAME]);
         bench.lines(TICK, &[NO_FRAME; 6]);
@@ -584,9 +590,7 @@ fn fast_frames_after_a_repeat_request_while_disabled() {
         bench.line(EnableCommunication);
         assert_eq!(bench.channel.fast_count, 0);
     }
-    normal.lines(TICK, &["0 N - 2100FFFFFFFFFFFF", "0 N - -", "0 N - -"]);
-    normal.lines(TICK, &["0 N - 2100FFFFFFFFFFFF"]);
-    ready.lines(TICK, &["0 S - -"; 10]);
+    sends_by_the_cycle(both);
 }
 
 #[test]

@@ -1,4 +1,4 @@
--- What it says of a configuration that no rule is broken: each rule by itself, and its PDU's byte ranges. Assumes nothing.
+-- What it says of a configuration that no rule is broken: each rule is kept. Assumes nothing.
 use mathlib.Core.Path.{_≡_, refl}
 use mathlib.Core.Bool.{Bool, true, false, not, _&&_, _||_}
 use lib.Dec.{eqb}

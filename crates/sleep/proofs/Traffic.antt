@@ -125,32 +125,6 @@ module _ (s : Setup) (g : Tuned (s .ticks) (s .immediate)) where
   set-free p true e = rw e
   set-free p false e = refl
 
-  -- fast frames: the message timer is 1, and the fast count IN
-  fast-ok : (x : Traffic) → s .passive ≡ false → TrafficOk s RepeatMessage x → TrafficOk s RepeatMessage (withFast s x)
-  fast-ok x p o = go (hasFast s)
-    where
-      go : (t : Bool)
-          → TrafficOk s RepeatMessage
-          (record { message = cond t 1 (x .message); fast = cond t (s .immediate) (x .fast); remote = x .remote; indicated = x .indicated; repeating = x .repeating; waking = x .waking })
-      go true =
-          record {
-            message = rw p one-fits;
-            fast = omega arith;
-            remote = o .remote;
-            repeating = o .repeating;
-            waking = o .waking;
-            indicated = o .indicated;
-          }
-      go false = o
-
-  pub to-repeat-asked : (m : State) (x : Traffic) → s .passive ≡ false → TrafficOk s m x → TrafficOk s RepeatMessage (toRepeatAsked s x)
-  unfolding toRepeatAsked toRepeat
-  to-repeat-asked m x p o = fast-ok _ p (repeat-ok x (record { repeating = set-free (s .passive) true p; waking = free o .waking }))
-
-  pub to-repeat-active : (m : State) (x : Traffic) → s .passive ≡ false → TrafficOk s m x → TrafficOk s RepeatMessage (toRepeatActive s x)
-  unfolding toRepeatActive toRepeat
-  to-repeat-active m x p o = fast-ok _ p (repeat-ok x (record { repeating = free o .repeating; waking = set-free (s .passive) true p }))
-
   -- the remote timer as it is loaded
   watched : (i : Bool) → Timer (ltb 0 (s .ticks .remote) && not i) (s .ticks .remote) (cond i 0 (s .ticks .remote))
   watched i = go (ltb 0 (s .ticks .remote)) i refl
@@ -185,7 +159,7 @@ module _ (s : Setup) (g : Tuned (s .ticks) (s .immediate)) where
         indicated = o .indicated;
       }
 
-  -- enabled again: the message timer is 1 where it runs
+  -- a message timer that is loaded where it runs
   with-message : (m : State) (t : Bool) (n : ℕ) (x : Traffic) → (t ≡ true → (transmits m && not (s .passive)) ≡ true) → 1 ≤ n
       → n ≤ larger (s .ticks .cycle) (s .ticks .fast) → TrafficOk s m x
       → TrafficOk s m (record { message = cond t n (x .message); fast = x .fast; remote = x .remote; indicated = x .indicated; repeating = x .repeating; waking = x .waking })
@@ -200,6 +174,32 @@ module _ (s : Setup) (g : Tuned (s .ticks) (s .immediate)) where
       }
   with-message m false n x k a b o = o
 
+  -- fast frames: the fast count is IN, and the message timer 1
+  fast-ok : (x : Traffic) → s .passive ≡ false → TrafficOk s RepeatMessage x → TrafficOk s RepeatMessage (withFast s x)
+  fast-ok x p o =
+      with-message RepeatMessage (hasFast s) 1 _ (λ h. rw p) (one-fits .0) (one-fits .1)
+      (record {
+        message = o .message;
+        fast = loaded (hasFast s);
+        remote = o .remote;
+        repeating = o .repeating;
+        waking = o .waking;
+        indicated = o .indicated;
+      })
+    where
+      loaded : (t : Bool) → cond t (s .immediate) (x .fast) ≤ s .immediate
+      loaded true = omega arith
+      loaded false = o .fast
+
+  pub to-repeat-asked : (m : State) (x : Traffic) → s .passive ≡ false → TrafficOk s m x → TrafficOk s RepeatMessage (toRepeatAsked s x)
+  unfolding toRepeatAsked toRepeat
+  to-repeat-asked m x p o = fast-ok _ p (repeat-ok x (record { repeating = set-free (s .passive) true p; waking = free o .waking }))
+
+  pub to-repeat-active : (m : State) (x : Traffic) → s .passive ≡ false → TrafficOk s m x → TrafficOk s RepeatMessage (toRepeatActive s x)
+  unfolding toRepeatActive toRepeat
+  to-repeat-active m x p o = fast-ok _ p (repeat-ok x (record { repeating = free o .repeating; waking = set-free (s .passive) true p }))
+
+  -- enabled again: the message timer is 1 where it runs
   talks : (e d p : Bool) → p ≡ false → (not e && d) ≡ true → (d && not p) ≡ true
   talks true d p h w = clash (sym w)
   talks false true p h w = rw h

@@ -38,7 +38,8 @@ firstMessage s = cond (s .passive) 0 (cond (ltb (s .ticks .offset) 1) 1 (s .tick
 unfoldable pub toRepeat : Setup → Traffic → Traffic
 toRepeat s x = traffic (firstMessage s) 0 0 false (x .repeating) (x .waking)
 
--- fast frames, where IN is above 0: the fast count is IN, and the first goes out in the next tick
+-- fast frames, AUTOSAR's immediate transmissions, where IN is above 0: the fast count is IN, and the first goes out in the next
+-- tick
 abbrev pub hasFast : Setup → Bool
 hasFast s = ltb 0 (s .immediate)
 

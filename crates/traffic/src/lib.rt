@@ -48,6 +48,7 @@ pub fn to_repeat(s: Setup, x: Traffic) -> Traffic
     y
 }
 
+// Starts fast frames (AUTOSAR: immediate transmissions), if there are any.
 fn fast_frames(s: Setup, x: Traffic) -> Traffic
     ensures { λ r. ⌜ r ≡ withFast s x ⌝ }
 {
