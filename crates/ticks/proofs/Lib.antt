@@ -1,1 +1,2 @@
+pub mod LongDivision
 pub mod Rounding

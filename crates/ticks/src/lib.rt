@@ -2,11 +2,14 @@
 //
 // Promises: the number of ticks for every period and time within their bounds, else which configuration rule
 // refuses the pair. Leaves to others: which time belongs to which parameter (`config`).
+//
+// Nothing here divides, since a small part has no instruction for it and would call a library routine.
 ghost use mathlib.Core.Path.{_≡_};
 ghost use lib.Dec.{eqb, leb, ltb};
 ghost use Prim.Native.Nat.{_-_, _*_, _≤_};
 ghost use mathlib.Core.Bool.{_&&_};
-ghost use Rattle.ticks.specs.Ticks.{conversionOf, periodMost, timeMost};
+ghost use Rattle.ticks.specs.LongDivision.{nextDigit};
+ghost use Rattle.ticks.specs.Ticks.{conversionOf, periodLeast, periodMost, ticksOf, timeMost};
 
 // The period of the main function, in milliseconds: smallest and largest.
 pub const PERIOD_LEAST: u64 = 1;
@@ -20,6 +23,50 @@ pub const TIME_MOST: u64 = 65535;
 pub struct Conversion {
     pub rule: u8,
     pub ticks: u16,
+}
+
+// A binary digit of a quotient, and the rest that is still to be divided.
+struct Digit {
+    digit: u16,
+    rest: u32,
+}
+
+// The binary digits that a number of ticks may have.
+const DIGITS: u32 = 16;
+
+// The digit at the place where `part` is the divisor: does it go into the rest?
+fn next_digit(rest: u32, part: u32) -> Digit
+    ensures { λ r. ⌜ r ≡ nextDigit rest part ⌝ }
+{
+    if rest < part {
+        return Digit {
+            digit: 0,
+            rest: rest,
+        };
+    }
+    Digit {
+        digit: 1,
+        rest: rest - part,
+    }
+}
+
+// The number of ticks that last at least `ms` milliseconds, by long division in binary: the period is shifted above the
+// highest place of the quotient, and comes down by one place for each digit.
+fn rounded_up(period: u8, ms: u16) -> u16
+    requires { ⌜ periodLeast ≤ period ⌝ }
+    ensures { λ r. ⌜ r ≡ ticksOf period ms ⌝ }
+{
+    let divisor = period as u32;
+    let mut quotient: u16 = 0;
+    let mut rest = ms as u32 + (divisor - 1);
+    let mut part = divisor << DIGITS;
+    while divisor < part {
+        part = part >> 1;
+        let d = next_digit(rest, part);
+        quotient = (quotient << 1) + d.digit;
+        rest = d.rest;
+    }
+    quotient
 }
 
 // The number of ticks that last at least `ms` milliseconds, at `period` milliseconds a tick.
@@ -37,7 +84,7 @@ pub fn to_ticks(period: u64, ms: u64) -> Conversion
     }
     Conversion {
         rule: 0,
-        ticks: ((ms + (period - 1)) / period) as u16,
+        ticks: rounded_up(period as u8, ms as u16),
     }
 }
 

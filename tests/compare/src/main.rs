@@ -1,4 +1,5 @@
-//! Compares the proved libraries with the plain second implementation, on random inputs.
+//! Compares the proved libraries with the plain second implementation, on random inputs; where all inputs are few
+//! enough, on all of them.
 //!
 //! `cannm_compare [SEED]`; the same seed always gives the same inputs. Prints how often each case was
 //! reached. Exit status 0: no difference, and every case reached; 1: otherwise, with the whole input of
@@ -32,6 +33,10 @@ fn main() -> ExitCode {
     };
     println!("cannm_compare: seed {seed}");
 
+    let whole: [(&str, Whole); 2] = [
+        ("every conversion", each_conversion),
+        ("PNCs of every range of a PDU", each_small_pnc),
+    ];
     let parts: [(&str, u64, Part); 9] = [
         ("ticks", 300_000, ticks),
         ("filter", 200_000, filter),
@@ -44,7 +49,17 @@ fn main() -> ExitCode {
         ("PNC bits", 100_000, pnc_bit),
     ];
     let mut seen = Seen::new();
-    let mut total = each_small_pnc(&mut seen);
+    let mut total = 0;
+    for (name, part) in whole {
+        match part(&mut seen) {
+            Ok(inputs) => total += inputs,
+            Err(difference) => {
+                println!("{difference}");
+                println!("cannm_compare: FAILED: {name}");
+                return ExitCode::FAILURE;
+            }
+        }
+    }
     for (at, (name, inputs, part)) in (1..).zip(parts) {
         // each part has its own numbers, whatever the others take
         let mut rng = Rng::new(seed ^ (at << 56));
@@ -66,6 +81,9 @@ fn main() -> ExitCode {
     println!("cannm_compare: {total} inputs compared, no difference");
     ExitCode::SUCCESS
 }
+
+/// Compares all inputs, and gives how many they are; `Err` tells the whole of one that differs.
+type Whole = fn(&mut Seen) -> Result<u64, String>;
 
 /// Compares one input; `Err` tells the whole of it.
 type Part = fn(&mut Rng, &mut Seen) -> Result<(), String>;
@@ -110,6 +128,23 @@ fn ticks(rng: &mut Rng, seen: &mut Seen) -> Result<(), String> {
         let periods = u64::from(period.clamp(1, 100)) * rng.below(700);
         time = (periods + rng.below(3)) as u32;
     }
+    compare_ticks(seen, period, time)
+}
+
+/// Every period with every time that has ticks.
+fn each_conversion(seen: &mut Seen) -> Result<u64, String> {
+    let mut inputs = 0;
+    for period in 1..=100 {
+        for time in 0..=65_535 {
+            compare_ticks(seen, period, time)?;
+            seen.add(Kind::TicksEach);
+            inputs += 1;
+        }
+    }
+    Ok(inputs)
+}
+
+fn compare_ticks(seen: &mut Seen, period: u32, time: u32) -> Result<(), String> {
     let want = host::convert(period, time);
     let expected = Ticks {
         answer: want.answer.into(),
@@ -583,22 +618,17 @@ fn pnc_bit(rng: &mut Rng, seen: &mut Seen) -> Result<(), String> {
     compare_bit(seen, start, length, number)
 }
 
-/// Every range of a PDU with every number near it. How many inputs that were.
-fn each_small_pnc(seen: &mut Seen) -> u64 {
+/// Every range of a PDU with every number near it.
+fn each_small_pnc(seen: &mut Seen) -> Result<u64, String> {
     let mut inputs = 0;
     for start in 0..=9 {
         for length in 0..=9 {
             for value in 0..160 {
-                let outcome = compare_number(seen, start, length, value)
-                    .and_then(|()| compare_bit(seen, start, length, value));
-                if let Err(difference) = outcome {
-                    println!("{difference}");
-                    println!("cannm_compare: FAILED: a range of a PDU");
-                    std::process::exit(1);
-                }
+                compare_number(seen, start, length, value)?;
+                compare_bit(seen, start, length, value)?;
                 inputs += 2;
             }
         }
     }
-    inputs
+    Ok(inputs)
 }
