@@ -3,12 +3,12 @@
 // Promises: the number of ticks for every period and time within their bounds, else which configuration rule
 // refuses the pair. Leaves to others: which time belongs to which parameter (`config`).
 //
-// Nothing here divides, since a small part has no instruction for it and would call a library routine.
+// Nothing here divides: a small processor has no instruction for it, and would call a library routine.
 ghost use mathlib.Core.Path.{_≡_};
 ghost use lib.Dec.{eqb, leb, ltb};
 ghost use Prim.Native.Nat.{_-_, _*_, _≤_};
 ghost use mathlib.Core.Bool.{_&&_};
-ghost use Rattle.ticks.specs.LongDivision.{nextDigit};
+ghost use Rattle.ticks.specs.LongDivision.{nextBit};
 ghost use Rattle.ticks.specs.Ticks.{conversionOf, periodLeast, periodMost, ticksOf, timeMost};
 
 // The period of the main function, in milliseconds: smallest and largest.
@@ -25,46 +25,47 @@ pub struct Conversion {
     pub ticks: u16,
 }
 
-// A binary digit of a quotient, and the rest that is still to be divided.
-struct Digit {
-    digit: u16,
-    rest: u32,
+// A bit of a quotient, and the remainder after it.
+struct QuotientBit {
+    bit: u16,
+    remainder: u32,
 }
 
-// The binary digits that a number of ticks may have.
-const DIGITS: u32 = 16;
+// So many bits has the largest number of ticks.
+const QUOTIENT_BITS: u32 = 16;
 
-// The digit at the place where `part` is the divisor: does it go into the rest?
-fn next_digit(rest: u32, part: u32) -> Digit
-    ensures { λ r. ⌜ r ≡ nextDigit rest part ⌝ }
+// The next bit of a quotient, where the divisor is shifted to the place of that bit.
+fn next_bit(remainder: u32, shifted: u32) -> QuotientBit
+    ensures { λ r. ⌜ r ≡ nextBit remainder shifted ⌝ }
 {
-    if rest < part {
-        return Digit {
-            digit: 0,
-            rest: rest,
+    if remainder < shifted {
+        return QuotientBit {
+            bit: 0,
+            remainder: remainder,
         };
     }
-    Digit {
-        digit: 1,
-        rest: rest - part,
+    QuotientBit {
+        bit: 1,
+        remainder: remainder - shifted,
     }
 }
 
-// The number of ticks that last at least `ms` milliseconds, by long division in binary: the period is shifted above the
-// highest place of the quotient, and comes down by one place for each digit.
+// The number of ticks that last at least `ms` milliseconds, by long division in binary: the period, shifted above the
+// highest bit of the quotient, comes down by one place for each bit until it stands at its own. The end is told by the
+// period and not by a counter, for which a compiler would write the loop out sixteen times.
 fn rounded_up(period: u8, ms: u16) -> u16
     requires { ⌜ periodLeast ≤ period ⌝ }
     ensures { λ r. ⌜ r ≡ ticksOf period ms ⌝ }
 {
     let divisor = period as u32;
     let mut quotient: u16 = 0;
-    let mut rest = ms as u32 + (divisor - 1);
-    let mut part = divisor << DIGITS;
-    while divisor < part {
-        part = part >> 1;
-        let d = next_digit(rest, part);
-        quotient = (quotient << 1) + d.digit;
-        rest = d.rest;
+    let mut remainder = ms as u32 + (divisor - 1);
+    let mut shifted = divisor << QUOTIENT_BITS;
+    while divisor < shifted {
+        shifted = shifted >> 1;
+        let b = next_bit(remainder, shifted);
+        quotient = (quotient << 1) + b.bit;
+        remainder = b.remainder;
     }
     quotient
 }
