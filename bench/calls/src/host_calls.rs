@@ -1,8 +1,10 @@
-//! The three functions for a C host. The reference offers the same through functions of the same C signatures, so that
-//! neither side is inlined into the loop that calls it.
+//! The three functions for a C host, and the rules of a configuration. The reference offers the same through functions of
+//! the same signatures, so that neither side is inlined into the loop that calls it.
 
 use crate::{measured, timed, Row};
-use cannm_compare::product::{raw, Filter, Header, Ticks};
+use cannm_compare::inputs::{self, Handed};
+use cannm_compare::product::{self, raw, Filter, Header, Ticks};
+use cannm_reference::config;
 use cannm_reference::host::{self, Reply};
 use cannm_reference::pdu::PNI_BIT;
 use cannm_reference::rng::Rng;
@@ -20,6 +22,7 @@ const SEED: u64 = 1;
 
 type TicksCall = unsafe extern "C" fn(u32, u32) -> Ticks;
 type FilterCall = unsafe extern "C" fn(u32, u32, *const u8, usize, *const u8, usize) -> Filter;
+type RulesCall = fn(&Handed) -> u32;
 type ReadCall = unsafe extern "C" fn(u32, u32, u32, *const u8, usize) -> Header;
 
 // ---- the reference for C
@@ -190,7 +193,18 @@ fn read_row() -> Row {
     )
 }
 
-/// All rows of the three functions.
+fn rules_row() -> Row {
+    let mut rng = Rng::new(SEED);
+    row(
+        "rules 1 to 8 of a configuration",
+        || inputs::passing(&mut rng),
+        (|handed| product::first_broken_rule(&handed.numbers, &handed.mask)) as RulesCall,
+        (|handed| config::first_broken_rule(&handed.config()).into()) as RulesCall,
+        |rules, handed| rules(handed),
+    )
+}
+
+/// All rows of these functions.
 pub fn rows() -> Vec<Row> {
-    vec![ticks_row(), filter_row(), read_row()]
+    vec![ticks_row(), filter_row(), read_row(), rules_row()]
 }
