@@ -62,7 +62,7 @@ fastest stretch of each counts.
 - 56 PNCs: all in the mask, the filter on. A PDU before the stretch starts the timers of the active ones in ERA and
   EIRA, and the reset time is longer than the stretch, so that exactly these run in every tick.
 - Functions for C, and rules: {host} calls through a pointer to a function. The reference has functions of the same
-  signatures. The configurations pass, and each side first puts them together of their numbers, in every call.
+  signatures. The configurations pass, and each side first puts them together from their numbers, in every call.
 - Lent buffers: the frame was cleared before each stretch on both sides, and not between its calls. No other is written."
     )
 }

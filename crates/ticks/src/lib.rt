@@ -31,7 +31,7 @@ struct QuotientBit {
     remainder: u32,
 }
 
-// So many bits has the largest number of ticks.
+// The bits of the largest number of ticks.
 const QUOTIENT_BITS: u32 = 16;
 
 // The next bit of a quotient, where the divisor is shifted to the place of that bit.

@@ -34,8 +34,11 @@ fn main() -> ExitCode {
     println!("cannm_compare: seed {seed}");
 
     let whole: [(&str, Whole); 2] = [
-        ("every conversion", each_conversion),
-        ("PNCs of every range of a PDU", each_small_pnc),
+        (
+            "ticks: each period 1 to 100 with each time 0 to 65535",
+            each_conversion,
+        ),
+        ("PNC numbers and bits: each range of a PDU", each_small_pnc),
     ];
     let parts: [(&str, u64, Part); 9] = [
         ("ticks", 300_000, ticks),
@@ -52,7 +55,10 @@ fn main() -> ExitCode {
     let mut total = 0;
     for (name, part) in whole {
         match part(&mut seen) {
-            Ok(inputs) => total += inputs,
+            Ok(inputs) => {
+                println!("  {inputs:>9}  {name}");
+                total += inputs;
+            }
             Err(difference) => {
                 println!("{difference}");
                 println!("cannm_compare: FAILED: {name}");
@@ -137,10 +143,10 @@ fn each_conversion(seen: &mut Seen) -> Result<u64, String> {
     for period in 1..=100 {
         for time in 0..=65_535 {
             compare_ticks(seen, period, time)?;
-            seen.add(Kind::TicksEach);
             inputs += 1;
         }
     }
+    assert_eq!(inputs, 100 * 65_536, "not every conversion was compared");
     Ok(inputs)
 }
 

@@ -13,7 +13,6 @@ macro_rules! kinds {
 }
 
 kinds! {
-    TicksEach "ticks: periods 1 to 100, each with all times 0 to 65535"
     TicksDone "ticks: answer 0"
     TicksWhole "ticks: answer 0, a whole number of periods"
     TicksBegun "ticks: answer 0, the last period only begun"
