@@ -51,8 +51,8 @@ fn next_bit(remainder: u32, shifted: u32) -> QuotientBit
 }
 
 // The number of ticks that last at least `ms` milliseconds, by long division in binary: the period, shifted above the
-// highest bit of the quotient, comes down by one place for each bit until it stands at its own. The end is told by the
-// period and not by a counter, for which a compiler would write the loop out sixteen times.
+// highest bit of the quotient, comes down by one place for each bit until it stands at its own. The period tells the
+// end, and not a counter: with a counter the compiler writes the loop out sixteen times.
 fn rounded_up(period: u8, ms: u16) -> u16
     requires { ⌜ periodLeast ≤ period ⌝ }
     ensures { λ r. ⌜ r ≡ ticksOf period ms ⌝ }
