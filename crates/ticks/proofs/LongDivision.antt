@@ -16,10 +16,10 @@ abbrev pub Dividing : ℕ → ℕ → ℕ → ℕ → ℕ → Type 0
 Dividing n p quotient remainder shifted =
     (places : ℕ) × (shifted ≡ p * 2 ^ places) × (quotient * shifted + remainder ≡ n) × (remainder < shifted)
 
--- no place has a bit yet: they are enough if n is below p shifted by all of them
+-- no place has a bit yet: they are enough if the shifted divisor is above n
 module _ {remainder shifted : ℕ} (n p places : ℕ) where
-  pub begun : shifted ≡ p * 2 ^ places → remainder ≡ n → n < p * 2 ^ places → Dividing n p 0 remainder shifted
-  begun e f h = (places, e, omega (arith, f), omega (arith, e, f, h))
+  pub begun : remainder ≡ n → remainder < shifted → shifted ≡ p * 2 ^ places → Dividing n p 0 remainder shifted
+  begun e h f = (places, f, omega (arith, e), h)
 
 -- a bit takes away what it counts, and leaves less than the shifted divisor
 module _ (quotient remainder shifted : ℕ) where

@@ -16,7 +16,9 @@ abbrev μ-loop : tie.MeasureT-loop
 μ-loop period ms divisor quotient₀ remainder₀ shifted₀ quotient remainder shifted = shifted
 
 loop-holds : tie.Need-loop-holds Inv-loop μ-loop
-loop-holds c = begun _ _ 16 (omega arith) (omega arith) (omega arith)
+loop-holds c =
+    let e : c .args .period * 65536 % 4294967296 ≡ c .args .period * 65536 = omega arith in
+    begun _ _ 16 (omega arith) (omega (arith, e)) (omega arith)
 
 add-quotient : tie.Need-add-quotient Inv-loop μ-loop
 add-quotient c =
