@@ -1,6 +1,6 @@
 -- Long division in binary: what holds before each bit of the quotient, and what the last one leaves. Assumes nothing.
 use mathlib.Core.Path.{_≡_, _∙_, refl}
-use mathlib.Core.Bool.{Bool, true, false, cond}
+use mathlib.Core.Bool.{Bool, true, false}
 use Prim.Native.Nat.{ℕ, zero, suc, _+_, _-_, _*_, _/_, _^_, _≤_, _<_}
 use native.Mathlib.Nat.{le-mul-of-pos-right, lt-of-mul-lt-mul-left, mul-le-mul-left, pow-suc}
 use native.Mathlib.Omega.{arith}
@@ -11,63 +11,65 @@ use borrow.Author.Tests.{ltb-false, ltb-true}
 use Rattle.ticks.specs.declared.QuotientBit.{QuotientBit}
 use Rattle.ticks.specs.LongDivision.{nextBit}
 
--- n is being divided by p, which is shifted by as many places as have no bit yet
+-- a division, where the divisor is shifted by as many places as have no bit yet
 abbrev pub Dividing : ℕ → ℕ → ℕ → ℕ → ℕ → Type 0
-Dividing n p quotient remainder shifted =
-    (places : ℕ) × (shifted ≡ p * 2 ^ places) × (quotient * shifted + remainder ≡ n) × (remainder < shifted)
+Dividing dividend divisor quotient remainder shifted =
+    (places : ℕ) × (shifted ≡ divisor * 2 ^ places) × (quotient * shifted + remainder ≡ dividend) × (remainder < shifted)
 
--- no place has a bit yet: they are enough if the shifted divisor is above n
-module _ {remainder shifted : ℕ} (n p places : ℕ) where
-  pub begun : remainder ≡ n → remainder < shifted → shifted ≡ p * 2 ^ places → Dividing n p 0 remainder shifted
+-- no place has a bit yet: they are enough if the shifted divisor is above the dividend
+module _ {remainder shifted : ℕ} (dividend divisor places : ℕ) where
+  pub begun : remainder ≡ dividend → remainder < shifted → shifted ≡ divisor * 2 ^ places
+      → Dividing dividend divisor 0 remainder shifted
   begun e h f = (places, f, omega (arith, e), h)
 
 -- a bit takes away what it counts, and leaves less than the shifted divisor
 module _ (quotient remainder shifted : ℕ) where
   abbrev Counts : QuotientBit → Type 0
-  Counts b =
-      ((quotient * 2 + b .bit) * shifted + b .remainder ≡ quotient * (shifted * 2) + remainder)
-      × (b .remainder < shifted)
+  Counts next =
+      ((quotient * 2 + next .bit) * shifted + next .remainder ≡ quotient * (shifted * 2) + remainder)
+      × (next .remainder < shifted)
 
   counts : remainder < shifted * 2 → Counts (nextBit remainder shifted)
   unfolding nextBit
   counts h = go (ltb remainder shifted) refl
     where
-      go : (t : Bool) → ltb remainder shifted ≡ t
-          → Counts (cond t (record { bit = 0; remainder = remainder }) (record { bit = 1; remainder = remainder - shifted }))
-      go true e = (omega arith, ltb-true remainder shifted e)
-      go false e = let f = ltb-false remainder shifted e in (omega (arith, f), omega (arith, f))
+      go : (less : Bool) → ltb remainder shifted ≡ less → Counts (nextBit remainder shifted)
+      go true e = rw e (omega arith, ltb-true remainder shifted e)
+      go false e = let f = ltb-false remainder shifted e in rw e (omega (arith, f), omega (arith, f))
 
-module _ (n p quotient remainder shifted : ℕ) (i : Dividing n p quotient remainder shifted) where
-  at-least : p ≤ shifted
-  at-least = rw (i .1) (le-mul-of-pos-right p (pow-pos (i .0)))
+module _ (dividend divisor quotient remainder shifted : ℕ) (i : Dividing dividend divisor quotient remainder shifted) where
+  at-least : divisor ≤ shifted
+  at-least = rw (i .1) (le-mul-of-pos-right divisor (pow-pos (i .0)))
 
-  -- the quotient is below k where n is below k times p
-  below : (k : ℕ) → n < k * p → quotient < k
-  below k h = lt-of-mul-lt-mul-left p (omega (arith, h, i .2, mul-le-mul-left quotient at-least))
+  -- the quotient is below k where the dividend is below k times the divisor
+  below : (k : ℕ) → dividend < k * divisor → quotient < k
+  below k h = lt-of-mul-lt-mul-left divisor (omega (arith, h, i .2, mul-le-mul-left quotient at-least))
 
   -- every place has its bit
-  pub all-done : shifted ≤ p → n / p ≡ quotient
-  all-done h = let e : shifted ≡ p = omega (arith, h, at-least) in rw (← i .2, ← e) (digits-div quotient (i .3))
+  pub all-done : shifted ≤ divisor → dividend / divisor ≡ quotient
+  all-done h = let e : shifted ≡ divisor = omega (arith, h, at-least) in rw (← i .2, ← e) (digits-div quotient (i .3))
 
 -- one place more has its bit
-module _ (n p quotient remainder shifted : ℕ) (i : Dividing n p quotient remainder shifted) (h : p < shifted) where
+module _ (dividend divisor quotient remainder shifted : ℕ) (i : Dividing dividend divisor quotient remainder shifted)
+    (h : divisor < shifted) where
   abbrev half : ℕ
   half = shifted / 2
 
-  abbrev b : QuotientBit
-  b = nextBit remainder half
+  abbrev next : QuotientBit
+  next = nextBit remainder half
 
-  evenly : (k : ℕ) → shifted ≡ p * 2 ^ k → (j : ℕ) × (half ≡ p * 2 ^ j) × (shifted ≡ half * 2)
+  -- the shifted divisor is even, and its half is shifted by one place less
+  evenly : (k : ℕ) → shifted ≡ divisor * 2 ^ k → (j : ℕ) × (half ≡ divisor * 2 ^ j) × (shifted ≡ half * 2)
   evenly zero e = absurd (omega (arith, e, h))
   evenly (suc k) e =
-      let f : shifted ≡ p * 2 ^ k * 2 = rw pow-suc at e ∙ omega arith in (k, omega (arith, f), omega (arith, f))
+      let f : shifted ≡ divisor * 2 ^ k * 2 = rw pow-suc at e ∙ omega arith in (k, omega (arith, f), omega (arith, f))
 
-  pub bit-done : Dividing n p (quotient * 2 + b .bit) (b .remainder) half
+  pub bit-done : Dividing dividend divisor (quotient * 2 + next .bit) (next .remainder) half
   bit-done =
       let e = evenly (i .0) (i .1) in
       let c = counts quotient remainder half (omega (arith, i .3, e .2)) in
       (e .0, e .1, c .0 ∙ rw (← e .2) (i .2), c .1)
 
   -- the quotient has room for it
-  pub room : (k : ℕ) → n < k * p → quotient * 2 + b .bit < k
-  room = below n p (quotient * 2 + b .bit) (b .remainder) half bit-done
+  pub room : (k : ℕ) → dividend < k * divisor → quotient * 2 + next .bit < k
+  room = below dividend divisor (quotient * 2 + next .bit) (next .remainder) half bit-done

@@ -63,9 +63,9 @@ fn rounded_up(period: u8, ms: u16) -> u16
     let mut shifted = divisor << QUOTIENT_BITS;
     while divisor < shifted {
         shifted = shifted >> 1;
-        let b = next_bit(remainder, shifted);
-        quotient = (quotient << 1) + b.bit;
-        remainder = b.remainder;
+        let next = next_bit(remainder, shifted);
+        quotient = (quotient << 1) + next.bit;
+        remainder = next.remainder;
     }
     quotient
 }
