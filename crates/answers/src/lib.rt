@@ -2,6 +2,8 @@
 //
 // Promises: one number for each answer, and the number of the broken rule where there is one. Leaves to others:
 // when an answer is given.
+#![tactic(auto)]
+
 ghost use Rattle.std.specs.Prelude.{◌≡◌};
 ghost use Rattle.answers.specs.Answers.{number_of, rule_of};
 

@@ -3,6 +3,8 @@
 //
 // Promises: nothing of its results, only that each run ends and goes without an error. Leaves to others: what a call
 // does (`tick`, `reception`), and the channel as words (`test_host::exchange`).
+#![tactic(auto)]
+
 use answers::Answer;
 use channel::state::Notes;
 use states::Note;

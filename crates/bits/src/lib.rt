@@ -2,6 +2,8 @@
 //
 // Promises: each function is an equation with a definition of specs/, for every length. Leaves to others: what a
 // bit stands for (`pnc`), and the reset timers behind it (`timers`).
+#![tactic(auto)]
+
 ghost use Rattle.std.specs.Prelude.{◌≡◌, ◌^◌, ◌<◌, length, get_or};
 ghost use Rattle.std.specs.Int.Count.{count_trailing_zeros};
 ghost use Rattle.bits.specs.Bits.{bit_of, bit_at, some_masked, count_ones, lowest_in};

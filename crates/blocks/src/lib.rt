@@ -3,6 +3,8 @@
 // Promises: where the unfinished line of a text begins, and whether all its lines have a number; that a run over blocks,
 // which keeps the start of an unfinished line, gives what the run over the whole text gives (proofs/Blocks). Leaves to
 // others: the lines themselves (`text`), which blocks are taken, and what is kept between them (`trace`).
+#![tactic(auto)]
+
 ghost use Rattle.std.specs.Prelude.{◌≡◌};
 ghost use Rattle.blocks.specs.Blocks.{finished_len, lines_fit};
 

@@ -2,6 +2,8 @@
 //
 // Promises: the run after all of them and the text that they print, by the definition of specs/CallLines. Leaves to others:
 // what one line comes to (`replay`), and the lines of the configuration before them (`trace`).
+#![tactic(auto)]
+
 ghost use Rattle.std.specs.Prelude.{◌≡◌, ◌+◌, ◌*◌, ◌-◌, ◌≤◌, length, drop};
 ghost use Rattle.text.specs.Lines.{lines_of};
 ghost use Rattle.runs.specs.declared.Phase.TheVariants.{Running};

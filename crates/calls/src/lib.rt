@@ -3,6 +3,8 @@
 // Promises: each call gives the channel, answer and notes of channel's definition `replied`, over every channel handed
 // in, refusals included. Leaves to others: the calls with bytes (`reception`, `inputs`), the main function (`tick`) and
 // the status (`status`).
+#![tactic(auto)]
+
 ghost use Rattle.std.specs.Prelude.{◌≡◌};
 ghost use Rattle.decision.specs.Decision.{confirm_pn_availability, disable_communication, enable_communication, network_release, network_request, passive_start_up, repeat_message_request, tx_confirmation};
 ghost use Rattle.channel.specs.Channel.{replied};

@@ -3,6 +3,8 @@
 //
 // Promises: every answer with its values, refused ones 0, for every number of 32 bits and every byte string. Leaves to
 // others: a channel and its state.
+#![tactic(auto)]
+
 ghost use Rattle.std.specs.Prelude.{◌≡◌};
 ghost use Rattle.cannm_c.specs.Host.{converted_for, decided_for, read_for, ruled};
 

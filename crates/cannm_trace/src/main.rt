@@ -3,6 +3,8 @@
 // Promises: safe and ending on any input. What a block and the end of the input print is promised by `trace`, and that
 // blocks print what the whole trace prints is proved in `trace_claims`. No contract can say which bytes are read and
 // written; that they are the input's and the text's is tested.
+#![tactic(auto)]
+
 use libc::{STDIN_FILENO, STDOUT_FILENO};
 use trace::{BLOCK_MOST, BLOCK_ROOM, Trace};
 

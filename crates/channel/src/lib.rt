@@ -3,6 +3,8 @@
 //
 // Promises: each function is a definition of specs/. Leaves to others: the calls themselves (`calls`, `status`,
 // `reception`, `inputs`, `tick`), in which tick Bus-Sleep is entered, over whole lists of calls (`sleep`), and the CAN driver.
+#![tactic(auto)]
+
 ghost use Rattle.std.specs.Prelude.{◌≡◌};
 ghost use Rattle.channel.specs.Channel.{fresh, fresh_mode, fresh_traffic, initialised, refused, zero, zero_config, zero_ticks};
 ghost use Rattle.channel.specs.Moved.{moved_by, moved_to};

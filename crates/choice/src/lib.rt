@@ -2,6 +2,8 @@
 // line and a loop over a table becomes vector code.
 //
 // Promises: each function is the library's operation of the same meaning. Leaves to others: what is chosen, and why.
+#![tactic(auto)]
+
 ghost use Rattle.std.specs.Prelude.{◌≡◌, min, ltb, cond};
 
 pub fn pick8(test: bool, a: u8, b: u8) -> u8

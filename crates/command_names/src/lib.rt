@@ -2,6 +2,8 @@
 //
 // Promises: the call of every name, or that there is none, for any bytes. Leaves to others: cutting a line into name
 // and argument (`commands`), and which name it is (`names`).
+#![tactic(auto)]
+
 ghost use Rattle.std.specs.Prelude.{◌≡◌};
 ghost use Rattle.command_names.specs.CommandNames.{alone, tick_of, with_bytes};
 

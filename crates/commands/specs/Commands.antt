@@ -5,7 +5,7 @@ use Rattle.text.specs.Filled.{Filled, filled}
 use Rattle.text.specs.Lines.{until}
 use Rattle.blocks.specs.Blocks.{line_most}
 use Rattle.fields.specs.Fields.{tab}
-use Rattle.hex.specs.Hex.{hex_pairs}
+use Rattle.hex_bytes.specs.Hex.{hex_pairs}
 use Rattle.names.specs.Names.{call_of}
 use Rattle.command_names.specs.declared.Asked.{Asked}
 use Rattle.command_names.specs.declared.Asked.TheVariants.{Unreadable}

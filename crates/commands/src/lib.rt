@@ -2,6 +2,8 @@
 //
 // Promises: the call of every line, or that it can't be read, for any bytes. Leaves to others: the call of a name
 // (`command_names`), the configuration's lines (`config_line`, `pn_line`), and carrying the call out (`dispatch`).
+#![tactic(auto)]
+
 ghost use Rattle.std.specs.Prelude.{◌≡◌};
 ghost use Rattle.text.specs.Filled.{filled};
 ghost use Rattle.commands.specs.Commands.{argued, hex_read, reading, read_as};
@@ -12,7 +14,7 @@ use command_names::Asked;
 fn read_hex(a: &[u8], bytes: &mut [u8]) -> usize
     ensures { filled result bytes.new ≡ hex_read a.now bytes.old }
 {
-    let n = hex::hex_pairs(a, bytes);
+    let n = hex_bytes::hex_pairs(a, bytes);
     if 2 * n == a.len() {
         return n;
     }

@@ -2,6 +2,8 @@
 //
 // Promises: each function is a definition of specs/. Leaves to others: the configuration (`kept_ticks`), the PN timers
 // (`pn_limits`), and all conditions together (`soundness`).
+#![tactic(auto)]
+
 ghost use Rattle.std.specs.Prelude.{◌≡◌};
 ghost use Rattle.conditions.specs.Conditions.{larger, mode_sound, only, passive_sound, request_fits, runs, traffic_sound};
 

@@ -2,6 +2,8 @@
 //
 // Promises: whether a value lies within its bounds, and where header and user data stand, for every configuration whatever
 // its numbers. Leaves to others: the eight rules (`rules`), what the bytes mean (`layout`) and what the times do (`channel`).
+#![tactic(auto)]
+
 ghost use Rattle.std.specs.Prelude.{◌≡◌, ◌-◌};
 ghost use Rattle.config.specs.Bounds.{within};
 ghost use Rattle.config.specs.Ranges.{bytes_of, header_length, user_start_of, user_length_of};

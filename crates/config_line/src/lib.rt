@@ -3,6 +3,8 @@
 // Promises: for any bytes, whether the line can be read, and the configuration that its fields give, with PN off; that
 // the line's first 81 bytes say the same as the line (proofs/Cut). Leaves to others: PN (`pn_line`), and the rules of a
 // configuration (`rules`).
+#![tactic(auto)]
+
 ghost use Rattle.std.specs.Prelude.{◌≡◌};
 ghost use Rattle.config_line.specs.ConfigLine.{config_of, config_reads, is_position, position_of, read_config};
 

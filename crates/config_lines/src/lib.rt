@@ -3,6 +3,8 @@
 // Promises: the run after such a line and the text that it prints, by the definitions of specs/ConfigLines, unreadable
 // lines and refused configurations included. Leaves to others: reading the lines (`config_line`, `pn_line`), judging
 // the configuration (`channel`), and whether line 2 is a PN line (`trace_line`).
+#![tactic(auto)]
+
 ghost use Rattle.std.specs.Prelude.{◌≡◌, ◌+◌, ◌≤◌, length};
 ghost use Rattle.runs.specs.Runs.{Gives};
 ghost use Rattle.config_lines.specs.ConfigLines.{begun, broken, first_line, holding, judged_phase, partial_line};

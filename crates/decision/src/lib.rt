@@ -2,6 +2,8 @@
 //
 // Promises: each function is a definition of specs/. Leaves to others: the states (`states`), what a rule does
 // (`mode_transitions`), and what a call is refused with (`refusals`).
+#![tactic(auto)]
+
 ghost use Rattle.std.specs.Prelude.{◌≡◌, cond};
 ghost use Rattle.decision.specs.declared.Rule.TheVariants.{Keep};
 ghost use Rattle.decision.specs.Decision.{is_not_here, rule_at, rule_of};

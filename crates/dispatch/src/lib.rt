@@ -2,6 +2,8 @@
 //
 // Promises: what `replied` gives for the call, and every byte of the lent frame. Leaves to others: reading the line
 // (`commands`), a channel in parts (`dispatch_in_place`), and printing the reply (`replay`).
+#![tactic(auto)]
+
 ghost use Rattle.std.specs.Prelude.{◌≡◌, length};
 ghost use Rattle.channel.specs.Channel.{ticked};
 ghost use Rattle.dispatch.specs.Calls.{call_for, carried_out_by};

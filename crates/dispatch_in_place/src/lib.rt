@@ -2,6 +2,8 @@
 //
 // Promises: what `replied` gives for the call on the channel of these parts, and every byte of the lent frame. Leaves to
 // others: judging whether the channel is sound, of which the caller hands in the result (`ok`), and printing (`replay`).
+#![tactic(auto)]
+
 ghost use Rattle.std.specs.Prelude.{◌≡◌, length};
 ghost use Rattle.channel.specs.Channel.{ticked};
 ghost use Rattle.channel.specs.Parts.{channel_of, reply_of};

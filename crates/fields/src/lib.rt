@@ -3,6 +3,8 @@
 // Promises: what each field reads as, for any bytes; one that cannot be read has a number of its own. A buffer that
 // is too short takes what it has room for, and the answer still counts all. Leaves to others: where a line begins
 // (`text`), fields that are names (`names`) or bytes (`hex`), and which fields a line must have.
+#![tactic(auto)]
+
 ghost use Rattle.std.specs.Prelude.{◌≡◌, ◌+◌, ◌≤◌, length, drop, set};
 ghost use Rattle.text.specs.Filled.{filled, fill};
 ghost use Rattle.text.specs.Lines.{until};

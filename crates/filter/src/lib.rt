@@ -2,6 +2,8 @@
 //
 // Promises: each function is a definition of specs/, for any bytes and any mask; PN bytes and a mask of unequal lengths
 // are refused. Leaves to others: whether the filter is on, and where a PDU has these bytes (`frames`).
+#![tactic(auto)]
+
 ghost use Rattle.std.specs.Prelude.{◌≡◌};
 ghost use Rattle.filter.specs.Filter.{informs, keeps, verdict_answer, verdict_of, verdict_value};
 

@@ -2,6 +2,8 @@
 //
 // Promises: each function is a definition of specs/; lent bytes are given whole. Leaves to others: where a field stands
 // (`layout`), when a frame is sent (`sending`), and what is received (`heard`).
+#![tactic(auto)]
+
 ghost use Rattle.std.specs.Prelude.{◌≡◌, cond, ◌≤◌};
 ghost use Rattle.vectors.specs.Vectors.{vectors_differ};
 ghost use Rattle.frames.specs.Frames.{cbv_sent, framed, sent_loaded};

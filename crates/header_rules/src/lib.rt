@@ -2,6 +2,8 @@
 //
 // Promises: each function is a definition of specs/. Leaves to others: the PDU's byte ranges (`config`), and which of
 // all rules is broken first (`rules`).
+#![tactic(auto)]
+
 ghost use Rattle.std.specs.Prelude.{◌≡◌};
 ghost use Rattle.header_rules.specs.HeaderRules.{behind, first_broken_of_header, placed, rule6, rule7};
 

@@ -2,6 +2,8 @@
 //
 // Promises: each function is a definition of specs/. Leaves to others: where a field stands (`layout`), which PN bytes
 // keep a PDU (`filter`), and what follows from it (`reception`).
+#![tactic(auto)]
+
 ghost use Rattle.std.specs.Prelude.{◌≡◌};
 ghost use Rattle.vectors.specs.Vectors.{vectors_differ};
 ghost use Rattle.filter.specs.Filter.{keeps};

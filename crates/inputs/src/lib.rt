@@ -2,6 +2,8 @@
 //
 // Promises: each call gives the channel, answer and notes of channel's definition `replied`, over every channel handed
 // in and all bytes, refusals included. Leaves to others: which bytes a frame has (`frames`).
+#![tactic(auto)]
+
 ghost use Rattle.std.specs.Prelude.{◌≡◌};
 ghost use Rattle.decision.specs.Decision.{set_pn_requests, set_user_data};
 ghost use Rattle.channel.specs.Channel.{replied};

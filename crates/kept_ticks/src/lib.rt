@@ -2,6 +2,8 @@
 //
 // Promises: `configured` is the condition on the configuration of a sound state. Leaves to others: the rules (`rules`)
 // and the other conditions (`conditions`, `pn_limits`, `soundness`).
+#![tactic(auto)]
+
 ghost use Rattle.std.specs.Prelude.{◌≡◌};
 ghost use Rattle.time_rules.specs.TimeRules.{ticks_for};
 ghost use Rattle.kept_ticks.specs.KeptTicks.{configured, same_ticks};

@@ -4,6 +4,8 @@
 // Promises: for any configuration, fields and frame, every byte of the frame after writing, and what a header field
 // reads as. Leaves to others: whether the configuration passes and the lengths fit, which composing and reading judge
 // (`pdu`), and which values a channel sends and hears (`frames`).
+#![tactic(auto)]
+
 ghost use Rattle.std.specs.Prelude.{◌≡◌};
 ghost use Rattle.layout.specs.Fields.{fields};
 ghost use Rattle.layout.specs.Layout.{byte_at, frame_of, of_lengths, put_byte};

@@ -2,6 +2,8 @@
 //
 // Promises: each function is a definition of specs/. Leaves to others: the calls (`modes`), and which rule has which
 // step (`mode_transitions`).
+#![tactic(auto)]
+
 ghost use Rattle.std.specs.Prelude.{◌≡◌};
 ghost use Rattle.mode_steps.specs.ModeSteps.{nm_in_ready, nm_in_repeat_or_normal, prepared, repeat_in_repeat, wait_in_prepare};
 

@@ -2,6 +2,8 @@
 //
 // Promises: `mode_by` is a definition of specs/. Leaves to others: which rule it is (`decision`), the parts of a rule
 // (`modes`, `mode_steps`), the traffic (`traffic_transitions`), and what is told (`notes`).
+#![tactic(auto)]
+
 ghost use Rattle.std.specs.Prelude.{◌≡◌};
 ghost use Rattle.mode_transitions.specs.ModeTransitions.{mode_by};
 

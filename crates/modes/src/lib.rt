@@ -3,6 +3,8 @@
 //
 // Promises: each function is a definition of specs/. Leaves to others: the tick (`mode_steps`), which rule has which
 // part (`mode_transitions`), and the rest of a channel (`traffic`).
+#![tactic(auto)]
+
 ghost use Rattle.std.specs.Prelude.{◌≡◌};
 ghost use Rattle.modes.specs.Mode.{enabled, enter_network, enter_repeat, heard, restart, with_state};
 

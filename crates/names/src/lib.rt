@@ -4,6 +4,8 @@
 // (proofs/Packing). Leaves to others: what a line of that name asks (`commands`, `config_line`, `pn_line`).
 //
 // A name is packed into one number, and the table of packed names is searched for it.
+#![tactic(auto)]
+
 ghost use Rattle.std.specs.Prelude.{◌≡◌, ◌+◌, ◌*◌};
 ghost use Rattle.names.specs.Names.{call_of, packed, place as Names·place};
 

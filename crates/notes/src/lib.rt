@@ -1,6 +1,8 @@
 // The notes that each transition rule raises, and their order.
 //
 // Promises: each function is a definition of specs/. Leaves to others: EI and ER, which close a call (`channel`).
+#![tactic(auto)]
+
 ghost use Rattle.std.specs.Prelude.{◌≡◌};
 ghost use Rattle.notes.specs.Notes.{cancelled, first_by, noted, remote_sleeps, second_by, timed_out};
 

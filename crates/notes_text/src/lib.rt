@@ -2,6 +2,8 @@
 //
 // Promises: the text of specs/NotesText in the lent buffer from a place on, and no other byte changed. Leaves to others:
 // which notes there are (`channel`), the line around them (`report`), and that the buffer has room.
+#![tactic(auto)]
+
 ghost use Rattle.std.specs.Prelude.{[], ◌∷◌, ◌+◌, ◌≤◌, ◌<◌, eqb, length};
 ghost use Rattle.print.specs.Print.{Wrote};
 ghost use Rattle.notes_text.specs.NotesText.{change_word, dashed, notes_most, notes_text, piece, word_of};

@@ -3,6 +3,8 @@
 // Promises: every answer and every lent byte, refusals included, for any configuration and any bytes; composing and
 // reading undo each other (proofs/RoundTrip). Leaves to others: where the fields stand (`layout`), what the PN bytes say
 // (`filter`, `pnc`), which values a channel sends and what it does with those it hears (`channel`).
+#![tactic(auto)]
+
 ghost use Rattle.std.specs.Prelude.{◌≡◌, []};
 ghost use Rattle.layout.specs.Fields.{fields};
 ghost use Rattle.pdu.specs.Pdu.{composed, composing, header_reading, reading, taken};

@@ -2,6 +2,8 @@
 //
 // Promises: `put_limits` and `pair_under` are equations with the definitions of specs/. Leaves to others: which tables
 // are compared with the limits (`soundness`).
+#![tactic(auto)]
+
 ghost use Rattle.std.specs.Prelude.{◌≡◌, ◌&&◌, ◌*◌, ◌≤◌, length, take};
 ghost use Rattle.config.specs.Ranges.{pnc_most};
 ghost use Rattle.pn_limits.specs.Limits.{all_under, limits_of};

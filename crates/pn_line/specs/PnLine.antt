@@ -5,7 +5,7 @@ use Rattle.text.specs.Lines.{until}
 use Rattle.config.specs.declared.Config.{Config}
 use Rattle.fields.specs.Fields.{tab}
 use Rattle.fields.specs.Numbers.{tokens_of}
-use Rattle.hex.specs.Hex.{hex_pairs}
+use Rattle.hex_bytes.specs.Hex.{hex_pairs}
 use Rattle.settings.specs.declared.Setting.{Setting}
 use Rattle.settings.specs.Settings.{all_numbers, is_flag, is_line, name_of, table_of}
 

@@ -3,6 +3,8 @@
 // Promises: for any bytes, whether the line is the PN line, whether it can be read, and the configuration with what its
 // fields give; that the line's first 81 bytes say the same as the line (proofs/Cut). Leaves to others: line 1
 // (`config_line`), and the rules of a configuration (`rules`).
+#![tactic(auto)]
+
 ghost use Rattle.std.specs.Prelude.{◌≡◌};
 ghost use Rattle.pn_line.specs.PnLine.{
   behind_tab,
@@ -107,7 +109,7 @@ pub fn read_partial(c: Config, l: &[u8]) -> Setting
     let n = fields::tokens(l, &mut t);
     let mut mask = [0u8; PDU_MOST];
     let hex = mask_text(l);
-    let pairs = hex::hex_pairs(hex, &mut mask);
+    let pairs = hex_bytes::hex_pairs(hex, &mut mask);
     Setting {
         readable: settings::is_line(l, names::PN, PN_FIELDS, n)
             & partial_reads(&t)

@@ -1,6 +1,8 @@
 // Rule 8 of a configuration: the partial network.
 //
 // Promises: each function is a definition of specs/. Leaves to others: which rule is broken first (`rules`).
+#![tactic(auto)]
+
 ghost use Rattle.std.specs.Prelude.{◌≡◌, ◌+◌, leb, eqb};
 ghost use Rattle.pn_rules.specs.PnRules.{pn_absent, pn_range, pn_time, rule8};
 

@@ -2,6 +2,8 @@
 //
 // Promises: each conversion is a definition of specs/, for any number and any PN range; the two undo each other
 // (proofs/Inverse). Leaves to others: the bytes of the vector (`timers`), and which bits of it are set (`channel`).
+#![tactic(auto)]
+
 ghost use Rattle.std.specs.Prelude.{◌≡◌};
 ghost use Rattle.pnc.specs.Pnc.{bit_in, number_in, number_or_zero, range_of};
 

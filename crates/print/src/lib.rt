@@ -3,6 +3,8 @@
 // Promises: each writer leaves its text in the buffer from the given place on, answers the place behind it, and
 // changes no other byte (`Wrote`). Leaves to others: that the buffer has room, which the place behind a text needs in
 // any case, so that no writer tests it byte by byte; and what a line prints.
+#![tactic(auto)]
+
 ghost use Rattle.std.specs.Prelude.{◌≡◌, [], ◌∷◌, ◌+◌, ◌*◌, ◌≤◌, ◌<◌, length};
 ghost use Rattle.print.specs.Print.{Wrote, digits_most, hex_digit, hex_text, number_text};
 

@@ -2,6 +2,8 @@
 //
 // Promises: the channel, answer and notes of channel's definition `replied`, over every channel handed in and all bytes,
 // refusals included. Leaves to others: what the filter decides and which timers a PDU loads (`frames`).
+#![tactic(auto)]
+
 ghost use Rattle.std.specs.Prelude.{◌≡◌, List, ℕ};
 ghost use Rattle.decision.specs.Decision.{rx_indication};
 ghost use Rattle.channel.specs.Channel.{replied};

@@ -1,6 +1,8 @@
 // What a call is refused with: the rows of the table in their order.
 //
 // Promises: each function is a definition of specs/. Leaves to others: what each row tests (`soundness`, `decision`).
+#![tactic(auto)]
+
 ghost use Rattle.std.specs.Prelude.{◌≡◌};
 ghost use Rattle.refusals.specs.Refusals.{first_of, is_done, judged};
 

@@ -3,6 +3,8 @@
 // Promises: the run after any such line and the text that it prints, by the definitions of specs/Replay, refused and
 // unreadable lines included. Leaves to others: the configuration's lines (`config_lines`) and the run over all lines
 // (`trace`).
+#![tactic(auto)]
+
 ghost use Rattle.std.specs.Prelude.{◌≡◌, ◌+◌, ◌*◌, ◌≤◌, length};
 ghost use Rattle.runs.specs.Runs.{Gives};
 ghost use Rattle.soundness.specs.Sound.{sound_of};

@@ -2,6 +2,8 @@
 //
 // Promises: the number of the first of the eight rules that is broken, or 0, for every configuration whatever its
 // numbers. Leaves to others: the rules themselves (`time_rules`, `header_rules`, `pn_rules`).
+#![tactic(auto)]
+
 ghost use Rattle.std.specs.Prelude.{◌≡◌};
 ghost use Rattle.rules.specs.Rules.{first_broken, first_broken_by};
 

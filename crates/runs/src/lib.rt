@@ -2,6 +2,8 @@
 //
 // Promises: the count of the lines, the line without notes and frame, and which bytes of a frame are printed, by the
 // definitions of specs/Runs. Leaves to others: what a line does to the run (`config_lines`, `replay`).
+#![tactic(auto)]
+
 ghost use Rattle.std.specs.Prelude.{◌≡◌, ◌+◌, ◌≤◌, length};
 ghost use Rattle.answers.specs.Answers.{number_of};
 ghost use Rattle.print.specs.Print.{Wrote};

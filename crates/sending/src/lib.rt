@@ -2,6 +2,8 @@
 //
 // Promises: each function is a definition of specs/. Leaves to others: the other steps (`mode_transitions`), and the
 // bytes of the frame (`frames`).
+#![tactic(auto)]
+
 ghost use Rattle.std.specs.Prelude.{◌≡◌};
 ghost use Rattle.sending.specs.Sending.{counts, framing, is_due};
 

@@ -3,6 +3,8 @@
 // Promises: for any bytes and numbers, these tests; that a line's first 81 bytes say the same as the line, name and
 // length (proofs/Cut). Leaves to others: line 1 (`config_line`), the PN line behind it (`pn_line`), and which line of the
 // trace it is (`trace_line`).
+#![tactic(auto)]
+
 ghost use Rattle.std.specs.Prelude.{◌≡◌};
 ghost use Rattle.settings.specs.Settings.{all_numbers, is_flag, is_line, is_number, name_of};
 

@@ -3,3 +3,4 @@
 //
 // Promises: `every-channel-sleeps`, for every configuration that passes and every list of calls. Leaves to others: that the
 // code gives what the definitions say (`calls`, `status`, `reception`, `inputs`, `tick`), and traces (`trace_claims`).
+#![tactic(auto)]

@@ -2,6 +2,8 @@
 //
 // Promises: each function is an equation over lists, for any bytes, lengths and places. What would stand past the end is
 // left out, so no function asks for room. Leaves to others: what the bytes mean.
+#![tactic(auto)]
+
 ghost use Rattle.std.specs.Prelude.{◌≡◌, set, take, drop};
 ghost use Rattle.std.proofs.lemmas.List.Edits.{sets};
 

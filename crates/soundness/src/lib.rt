@@ -2,6 +2,8 @@
 //
 // Promises: each function is a definition of specs/. Leaves to others: the conditions (`kept_ticks`, `conditions`,
 // `pn_limits`), and refusing a state that is not sound (`channel`).
+#![tactic(auto)]
+
 ghost use Rattle.std.specs.Prelude.{◌≡◌, ◌&&◌, length};
 ghost use Rattle.config.specs.Ranges.{pnc_most};
 ghost use Rattle.pn_limits.specs.Limits.{all_under};

@@ -1,6 +1,8 @@
 // The five states, and the parts of a channel that the transition rules change.
 //
 // Promises: each function is a definition of specs/. Leaves to others: which rule a call brings (`decision`).
+#![tactic(auto)]
+
 ghost use Rattle.std.specs.Prelude.{◌≡◌};
 ghost use Rattle.states.specs.State.{state_number, in_network, is_bus_sleep, is_normal, is_prepare, is_repeat, settled, transmits};
 

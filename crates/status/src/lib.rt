@@ -2,6 +2,8 @@
 //
 // Promises: what channel's definition `status_of` shows, of every channel handed in, refusals included. Leaves to others:
 // all calls that change a channel (`calls`, `reception`, `inputs`, `tick`).
+#![tactic(auto)]
+
 ghost use Rattle.std.specs.Prelude.{◌≡◌};
 ghost use Rattle.bits.specs.Bits.{count_ones, lowest_in};
 ghost use Rattle.channel.specs.Channel.{lowest_pnc, status_of, unshown, vector_of};

@@ -2,6 +2,8 @@
 //
 // Promises: each function is the one of `timers`, `vectors` or `slices` that it calls. Leaves to others: what is loaded
 // and stored (`heard`, `frames`, `inputs`).
+#![tactic(auto)]
+
 ghost use Rattle.std.specs.Prelude.{◌≡◌};
 ghost use Rattle.std.proofs.lemmas.List.Edits.{sets};
 ghost use Rattle.timers.specs.Timers.{counted_down, loaded_where};

@@ -3,6 +3,8 @@
 //
 // Promises: nothing of its results, only that each function ends and goes without an error. Leaves to others: what a C host
 // is given (`cannm_c`), and the calls themselves.
+#![tactic(auto)]
+
 use config::{Config, Layout, PDU_MOST, Partial, Times};
 use pnc::{BitOf, NumberOf, PnRange, PncNumber, VectorBit};
 

@@ -2,6 +2,8 @@
 //
 // Promises: the place of any byte and of every line, for any text and any place, and how many lines there are. Leaves to
 // others: what a line says (`fields`), and a text that is read in blocks (`blocks`).
+#![tactic(auto)]
+
 ghost use Rattle.std.specs.Prelude.{◌≡◌, ◌+◌, length, drop};
 ghost use Rattle.text.specs.Lines.{line_feed, lines_of, reader_at, span_at, until};
 

@@ -3,6 +3,8 @@
 // Promises: the channel, answer, notes and every byte of the lent frame by channel's definition `ticked_by`, over every
 // channel handed in, refusals included. Leaves to others: what each step does (`mode_transitions`, `sending`, `notes`,
 // `frames`).
+#![tactic(auto)]
+
 ghost use Rattle.std.specs.Prelude.{◌≡◌};
 ghost use Rattle.channel.specs.Channel.{ticked, ticked_by};
 ghost use Rattle.channel.specs.Moved.{tick_effect};

@@ -1,7 +1,7 @@
 -- Long division in binary: what holds before each bit of the quotient, and what the last one leaves. Assumes nothing.
 use mathlib.Core.Path.{◌≡◌, ◌∙◌, refl}
 use mathlib.Core.Bool.{Bool, true, false}
-use Prim.Native.Nat.{ℕ, zero, suc, ◌+◌, ◌-◌, ◌*◌, ◌/◌, ◌^◌, ◌≤◌, ◌<◌}
+use Prim.Native.Nat.{ℕ, zero, suc, ◌+◌, ◌*◌, ◌/◌, ◌^◌, ◌≤◌, ◌<◌}
 use native.Mathlib.Nat.{le-mul_of_pos_right, lt_of_mul-lt-mul_left, mul-le-mul_left, pow-suc}
 use native.Mathlib.Omega.{arith}
 use lib.Arith.{digits_div}

@@ -4,6 +4,8 @@
 // refuses the pair. Leaves to others: which time belongs to which parameter (`config`).
 //
 // Nothing here divides: a small processor has no instruction for it, and would call a library routine.
+#![tactic(auto)]
+
 ghost use Rattle.std.specs.Prelude.{◌≡◌, eqb, leb, ltb, ◌-◌, ◌*◌, ◌≤◌, ◌&&◌};
 ghost use Rattle.ticks.specs.LongDivision.{next_bit};
 ghost use Rattle.ticks.specs.Ticks.{conversion_of, period_least, period_most, ticks_of, time_most};

@@ -2,6 +2,8 @@
 //
 // Promises: each function is a definition of specs/. Leaves to others: the fields and their bounds (`config`), the
 // conversion (`ticks`), and which rule is broken first (`rules`).
+#![tactic(auto)]
+
 ghost use Rattle.std.specs.Prelude.{◌≡◌};
 ghost use Rattle.time_rules.specs.TimeRules.{in_ticks, rule1, rule2, rule3, rule4, rule5, ticks_for, times_within};
 

@@ -2,6 +2,8 @@
 //
 // Promises: each function is an equation with a definition of specs/, for every number of timers. Leaves to others: the
 // vector (`vectors`), what a bit stands for (`pnc`), and when a timer is loaded or counted (`frames`, `tick`).
+#![tactic(auto)]
+
 ghost use Rattle.std.specs.Prelude.{◌≡◌, ◌*◌, ◌^◌, ◌<◌, min};
 ghost use Rattle.timers.specs.Timers.{counted_down, loaded_where};
 ghost use Rattle.vectors.specs.Vectors.{vectors_differ};

@@ -4,6 +4,8 @@
 // the end of the input and of a whole text; all by the definitions of specs/Trace and of the crates below. A block that is
 // refused changes nothing. Leaves to others: reading and writing (`cannm_trace`), and what is claimed of whole traces,
 // however they are cut into blocks (`trace_claims`).
+#![tactic(auto)]
+
 ghost use Rattle.std.specs.Prelude.{◌≡◌, ◌++◌, ◌+◌, ◌*◌, ◌≤◌, length, take};
 ghost use Rattle.text.specs.Filled.{fill, filled};
 ghost use Rattle.text.specs.Lines.{lines_of};

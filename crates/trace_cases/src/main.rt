@@ -3,6 +3,8 @@
 // Promises: safe and ending for any files. A trace passes exactly if its stored output is, byte for byte, what the text of
 // the trace prints by the definitions of `trace` (`passes`). Leaves to others: that `names` lists every stored trace
 // (tests/vectors). No contract can say which bytes a file has.
+#![tactic(auto)]
+
 ghost use Rattle.std.specs.Prelude.{◌≡◌, true, ◌++◌, ◌+◌, ◌≤◌, length, take};
 ghost use Rattle.print.specs.Print.{Wrote};
 ghost use Rattle.trace.specs.Trace.{printed};

@@ -3,3 +3,4 @@
 //
 // Promises: the claims, for every list of lines and of blocks and for every text. Leaves to others: that the code gives what the
 // definitions say (`trace`), and what is read and written (`cannm_trace`).
+#![tactic(auto)]

@@ -3,6 +3,8 @@
 //
 // Promises: nothing of its results, only that each function ends and goes without an error. Leaves to others: what a block
 // comes to (`trace`).
+#![tactic(auto)]
+
 ghost use Rattle.std.specs.Prelude.{◌≤◌};
 
 use runs::Run;

@@ -3,6 +3,8 @@
 // Promises: the run after any line and the text that it prints, by the definitions of specs/TraceLine; the same of the end of
 // the input. Leaves to others: what a line of the configuration (`config_lines`) and a line behind it (`replay`)
 // come to, and the run over all lines (`trace`).
+#![tactic(auto)]
+
 ghost use Rattle.std.specs.Prelude.{◌≡◌, ◌+◌, ◌*◌, ◌≤◌, length};
 ghost use Rattle.runs.specs.Runs.{Gives};
 ghost use Rattle.trace_line.specs.TraceLine.{ending, following, is_running, line_of, room, second_line};

@@ -3,6 +3,8 @@
 // Promises: each function is a definition of specs/. It sees the mode before a rule. Leaves to others: the tick
 // (`traffic_steps`, step f `sending`), which rule has which part (`traffic_transitions`), the mode itself (`modes`),
 // what is told (`notes`).
+#![tactic(auto)]
+
 ghost use Rattle.std.specs.Prelude.{◌≡◌};
 ghost use Rattle.traffic.specs.Traffic.{first_message, heard_in_normal, heard_in_ready, resumed, setup_of, to_normal, to_ready, to_repeat, to_repeat_active, to_repeat_asked, watching, with_fast};
 

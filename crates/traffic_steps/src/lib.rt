@@ -2,6 +2,8 @@
 //
 // Promises: each function is a definition of specs/. It sees the mode before or after the step. Leaves to others: the
 // calls (`traffic`), step f (`sending`), and which rule has which step (`traffic_transitions`).
+#![tactic(auto)]
+
 ghost use Rattle.std.specs.Prelude.{◌≡◌};
 ghost use Rattle.traffic_steps.specs.TrafficSteps.{in_normal, in_ready, in_repeat};
 

@@ -2,6 +2,8 @@
 //
 // Promises: `traffic_by` is a definition of specs/. Leaves to others: which rule it is (`decision`), the parts of a
 // rule (`traffic`, `traffic_steps`), the mode (`mode_transitions`), and step f of a tick (`sending`).
+#![tactic(auto)]
+
 ghost use Rattle.std.specs.Prelude.{◌≡◌};
 ghost use Rattle.traffic_transitions.specs.TrafficTransitions.{traffic_by};
 

@@ -2,6 +2,8 @@
 //
 // Promises: each function is an equation with a definition of specs/, for every number of timers. Leaves to others: the
 // timers (`timers`), and what a bit stands for (`pnc`).
+#![tactic(auto)]
+
 ghost use Rattle.std.specs.Prelude.{◌≡◌, ◌*◌, ◌^◌, ◌≤◌, ◌<◌, get_or};
 ghost use Rattle.vectors.specs.Vectors.{running_bit, vector_byte, vectors_differ};
 

@@ -4,7 +4,7 @@ use native.Mathlib.Omega.{arith}
 use borrow.Author.Rules.{rules}
 use borrow.Author.Tests.{eq-eqb, ne_eqb}
 use Rattle.text.specs.Filled.{Filled}
-use Rattle.hex.proofs.Hex.{pairs_short}
+use Rattle.hex_bytes.proofs.Hex.{pairs_short}
 use Rattle.commands.specs.Commands.{hex_read}
 use Rattle.commands.proofs.read_hex.Statement.{statement}
 use Rattle.commands.proofs.read_hex.Tie as tie

@@ -1,0 +1,44 @@
+// Bytes by their text in hex, upper case.
+//
+// Promises: for any text, the bytes of its leading pairs of digits in the lent buffer, and how many pairs there are. A
+// buffer that is too short takes what it has room for, and the answer still counts all. Leaves to others: whether a text
+// must be hex throughout (`commands`, `pn_line`).
+#![tactic(auto)]
+
+ghost use Rattle.std.specs.Prelude.{◌≡◌};
+ghost use Rattle.text.specs.Filled.{filled, fill};
+ghost use Rattle.hex_bytes.specs.Hex.{hex_value, hex_pairs};
+
+// The value of a hex digit in upper case, 16 for any other byte. It has no branch, since no processor could predict
+// which digit comes.
+fn hex_value(d: u8) -> u8
+    ensures { result ≡ hex_value d }
+{
+    let x = std::num::wrapping_sub_u8(d, b'0');
+    let y = std::num::wrapping_sub_u8(d, b'A');
+    let z = std::num::wrapping_sub_u8(d, b'A' - 10);
+    choice::pick8(x < 10, x, choice::pick8(y < 6, z, 16))
+}
+
+// The bytes of the leading hex pairs, in front of the buffer; answers how many pairs there are. A text is hex
+// throughout exactly if twice the answer is its length.
+pub fn hex_pairs(s: &[u8], out: &mut [u8]) -> usize
+    ensures { filled result out.new ≡ fill out.old (hex_pairs s.now) }
+{
+    let mut i = 0;
+    let mut n = 0;
+    while i + 1 < s.len() {
+        let high = hex_value(s[i]);
+        let low = hex_value(s[i + 1]);
+        if 15 < high {
+            return n;
+        }
+        if 15 < low {
+            return n;
+        }
+        slices::put(out, n, high * 16 + low);
+        n += 1;
+        i += 2;
+    }
+    n
+}

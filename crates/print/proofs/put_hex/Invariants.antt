@@ -1,0 +1,14 @@
+use mathlib.Core.Path.{◌≡◌, refl, sym, ◌∙◌}
+use Prim.Native.Nat.{◌-◌, ◌+◌, ◌*◌, ◌≤◌}
+use native.Mathlib.Omega.{arith}
+use lib.ListN.{length, drop, length-set}
+use lib.Seq.{sets}
+use Rattle.print.specs.Print.{hex_text}
+use Rattle.print.proofs.Hex.{length_hex, hex_end, hex_more}
+use Rattle.print.proofs.put_hex.Given as goal
+
+abbrev pub invariant-loop-i : goal.invariant-loop-i
+invariant-loop-i l = (sets l.initial.out l.at (hex_text l.bytes) ≡ sets l.out l.p (hex_text (drop l.i l.bytes))) × (l.p ≡ l.at + 2 * l.i) × (length l.out ≡ length l.initial.out) × (l.i ≤ length l.bytes)
+
+abbrev pub decreases-loop-i : goal.decreases-loop-i
+decreases-loop-i l = length l.bytes - l.i
