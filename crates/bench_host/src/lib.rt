@@ -11,7 +11,7 @@ use states::Note;
 
 // What a run gave, summed over its calls: the answers' numbers, how many notes were raised, how many frames were sent.
 #[repr(C)]
-#[derive(Drop)]
+#[derive(Clone, Copy)]
 pub struct Sums {
     pub answers: u32,
     pub notes: u32,

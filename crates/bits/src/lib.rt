@@ -70,7 +70,7 @@ fn trailing_zeros(b: u8) -> usize
 }
 
 // Where the lowest 1 of a byte string stands.
-#[derive(Drop)]
+#[derive(Clone, Copy)]
 pub enum Lowest {
     At(u32),
     Nowhere,

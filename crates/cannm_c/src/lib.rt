@@ -12,7 +12,7 @@ use answers::Answer;
 use config::Layout;
 
 #[repr(C)]
-#[derive(Drop)]
+#[derive(Clone, Copy)]
 pub struct TicksResult {
     pub answer: u32,
     pub rule: u32,
@@ -20,14 +20,14 @@ pub struct TicksResult {
 }
 
 #[repr(C)]
-#[derive(Drop)]
+#[derive(Clone, Copy)]
 pub struct FilterResult {
     pub answer: u32,
     pub keep: u32,
 }
 
 #[repr(C)]
-#[derive(Drop)]
+#[derive(Clone, Copy)]
 pub struct HeaderResult {
     pub answer: u32,
     pub rule: u32,

@@ -24,7 +24,7 @@ fn written(out: &[u8], n: usize) -> bool {
 }
 
 // How many bytes of the output hold text that is still to be written, and whether every write so far succeeded.
-#[derive(Drop)]
+#[derive(Clone, Copy)]
 struct Held {
     n: usize,
     ok: bool,
@@ -50,7 +50,7 @@ fn append(out: &mut [u8; OUTPUT], n: usize, text: &[u8]) -> Held {
 // ---- blocks
 
 // The trace between two blocks, and whether there is to be another.
-#[derive(Drop)]
+#[derive(Clone, Copy)]
 struct State {
     trace: Trace,
     more: bool,

@@ -4,7 +4,7 @@ use config::{Config, PDU_MOST, PN_MOST, PNC_MOST, Ticks};
 use states::{Mode, Note, Traffic};
 
 // A channel without EIRA, whose timers are the only part that no rule of the channel reads.
-#[derive(Drop)]
+#[derive(Clone, Copy)]
 pub struct Own {
     pub config: Config,
     pub ticks: Ticks, // what the configuration's times come to
@@ -15,14 +15,14 @@ pub struct Own {
     pub era: [u16; PNC_MOST], // reset timers of the external requests
 }
 
-#[derive(Drop)]
+#[derive(Clone, Copy)]
 pub struct Channel {
     pub own: Own,
     pub eira: [u16; PNC_MOST], // reset timers of the external and internal requests
 }
 
 // The notes of a call in the order raised: a call raises at most two, then EI and ER close it.
-#[derive(Drop)]
+#[derive(Clone, Copy)]
 pub struct Notes {
     pub first: Note,
     pub second: Note,
@@ -31,7 +31,7 @@ pub struct Notes {
 }
 
 // What a call gives: the channel after it, the answer, the notes, and whether a frame was sent.
-#[derive(Drop)]
+#[derive(Clone, Copy)]
 pub struct Reply {
     pub channel: Channel,
     pub answer: Answer,
@@ -41,7 +41,7 @@ pub struct Reply {
 
 // What a call gives of a channel whose tables and bytes it changes in place: the rest of the channel after it, and what
 // the reply says.
-#[derive(Drop)]
+#[derive(Clone, Copy)]
 pub struct Effect {
     pub mode: Mode,
     pub traffic: Traffic,
@@ -51,14 +51,14 @@ pub struct Effect {
 }
 
 // What initialising gives: the channel and the answer.
-#[derive(Drop)]
+#[derive(Clone, Copy)]
 pub struct Started {
     pub channel: Channel,
     pub answer: Answer,
 }
 
 // What status gives: the state's number, both vectors, how many PNCs EIRA has and the lowest of them.
-#[derive(Drop)]
+#[derive(Clone, Copy)]
 pub struct Status {
     pub answer: Answer,
     pub state: u8,

@@ -8,7 +8,7 @@ ghost use Rattle.std.specs.Prelude.{◌≡◌};
 ghost use Rattle.command_names.specs.CommandNames.{alone, tick_of, with_bytes};
 
 // A call with its argument; bytes stand in front of a lent buffer, so many of them.
-#[derive(Drop)]
+#[derive(Clone, Copy)]
 pub enum Command {
     NetworkRequest,
     NetworkRelease,
@@ -25,7 +25,7 @@ pub enum Command {
 }
 
 // What a line asks.
-#[derive(Drop)]
+#[derive(Clone, Copy)]
 pub enum Asked {
     Unreadable,
     Call(Command),

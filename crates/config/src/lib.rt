@@ -22,7 +22,7 @@ pub const PNC_MOST: usize = 8 * PN_MOST;
 // ---- the fields
 
 // The times of a channel in milliseconds (AUTOSAR's parameter, document 01's letter).
-#[derive(Drop)]
+#[derive(Clone, Copy)]
 pub struct Times {
     pub timeout: u64, // CanNmTimeoutTime, T
     pub wait: u64, // CanNmWaitBusSleepTime, W
@@ -35,7 +35,7 @@ pub struct Times {
 }
 
 // The same times in ticks of the main function.
-#[derive(Drop)]
+#[derive(Clone, Copy)]
 pub struct Ticks {
     pub timeout: u16,
     pub wait: u16,
@@ -48,7 +48,7 @@ pub struct Ticks {
 }
 
 // The header of the PDU: its length L and the bytes of the source node id and of the control bit vector.
-#[derive(Drop)]
+#[derive(Clone, Copy)]
 pub struct Layout {
     pub length: u64,
     pub sni: u64,
@@ -60,7 +60,7 @@ pub const OFF: u64 = 255;
 
 // Partial networking: the PN range of `length` bytes (N) from byte `start` (F) on, and the filter mask with the
 // number of bytes that it was given.
-#[derive(Drop)]
+#[derive(Clone, Copy)]
 pub struct Partial {
     pub on: bool,
     pub start: u64,
@@ -70,7 +70,7 @@ pub struct Partial {
     pub mask: [u8; PDU_MOST],
 }
 
-#[derive(Drop)]
+#[derive(Clone, Copy)]
 pub struct Config {
     pub period: u64, // CanNmMainFunctionPeriod, M
     pub times: Times,
@@ -84,7 +84,7 @@ pub struct Config {
 // ---- the bounds
 
 // The smallest and the largest value of a field.
-#[derive(Drop)]
+#[derive(Clone, Copy)]
 pub struct Bounds(pub u64, pub u64);
 
 // The fields by their row in the table of bounds.

@@ -38,7 +38,7 @@ pub const STATUS: u8 = 11;
 pub const MAIN_FUNCTION: u8 = 12;
 
 // The transition rules.
-#[derive(Drop)]
+#[derive(Clone, Copy)]
 pub enum Rule {
     // The state and its timers stay.
     Keep,

@@ -9,7 +9,7 @@ ghost use Rattle.filter.specs.Filter.{informs, keeps, verdict_answer, verdict_of
 
 use answers::Answer;
 
-#[derive(Drop)]
+#[derive(Clone, Copy)]
 pub enum Verdict {
     Kept,
     Dropped,

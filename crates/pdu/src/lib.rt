@@ -32,7 +32,7 @@ pub fn compose(c: Config, sni: u8, cbv: u8, pn: &[u8], user: &[u8], frame: &mut 
 // ---- reading
 
 // The answer and the header fields; PN bytes and user data go into lent bytes.
-#[derive(Drop)]
+#[derive(Clone, Copy)]
 pub struct Reading {
     pub answer: Answer,
     pub sni: u8,

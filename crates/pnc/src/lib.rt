@@ -10,28 +10,28 @@ ghost use Rattle.pnc.specs.Pnc.{bit_in, number_in, number_or_zero, range_of};
 use config::Config;
 
 // The number of a partial network cluster.
-#[derive(Drop)]
+#[derive(Clone, Copy)]
 pub struct PncNumber(pub u32);
 
 // The place of a bit in the vector, from bit 0 of the vector's first byte on.
-#[derive(Drop)]
+#[derive(Clone, Copy)]
 pub struct VectorBit(pub u32);
 
 // The PN range of the PDU: `length` bytes from byte `start` on.
-#[derive(Drop)]
+#[derive(Clone, Copy)]
 pub struct PnRange {
     pub start: u16,
     pub length: u16,
 }
 
-#[derive(Drop)]
+#[derive(Clone, Copy)]
 pub enum NumberOf {
     Number(PncNumber),
     // The vector has no such bit.
     NoBit,
 }
 
-#[derive(Drop)]
+#[derive(Clone, Copy)]
 pub enum BitOf {
     Bit(VectorBit),
     // The PNC lies outside the range.

@@ -22,7 +22,7 @@ const BYTES_MOST: usize = 40;
 
 // What a line leaves of a channel in parts, whose tables and bytes it changes in place, and the place behind what is
 // printed so far.
-#[derive(Drop)]
+#[derive(Clone, Copy)]
 pub struct Moved {
     pub mode: Mode,
     pub traffic: Traffic,

@@ -18,7 +18,7 @@ use states::{Note, State};
 // ---- runs
 
 // What the next line is for.
-#[derive(Drop)]
+#[derive(Clone, Copy)]
 pub enum Phase {
     // The configuration: line 1.
     First,
@@ -32,7 +32,7 @@ pub enum Phase {
 
 // A run between two lines, with the count of those that came before. Until the configuration is judged the channel only holds
 // it.
-#[derive(Drop)]
+#[derive(Clone, Copy)]
 pub struct Run {
     pub phase: Phase,
     pub lines: u64,
@@ -40,7 +40,7 @@ pub struct Run {
 }
 
 // The run after a line, and the place behind what is printed so far.
-#[derive(Drop)]
+#[derive(Clone, Copy)]
 pub struct Step {
     pub run: Run,
     pub at: usize,

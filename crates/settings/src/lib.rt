@@ -12,7 +12,7 @@ use config::Config;
 
 // What a line says. The configuration is made from what the fields read as also where the line can't be read, so that
 // one equation says all. Who finds `readable` false has no use for it.
-#[derive(Drop)]
+#[derive(Clone, Copy)]
 pub struct Setting {
     pub readable: bool,
     pub config: Config,

@@ -7,7 +7,7 @@ ghost use Rattle.std.specs.Prelude.{◌≡◌};
 ghost use Rattle.states.specs.State.{state_number, in_network, is_bus_sleep, is_normal, is_prepare, is_repeat, settled, transmits};
 
 // The states, numbered in this order from 0.
-#[derive(Drop)]
+#[derive(Clone, Copy)]
 pub enum State {
     BusSleep,
     PrepareBusSleep,
@@ -17,7 +17,7 @@ pub enum State {
 }
 
 // What decides the state: nothing else of the channel is looked at for it.
-#[derive(Drop)]
+#[derive(Clone, Copy)]
 pub struct Mode {
     pub state: State,
     pub requested: bool,
@@ -29,7 +29,7 @@ pub struct Mode {
 }
 
 // What is sent and watched: message and remote sleep timers, and the bits of the control bit vector.
-#[derive(Drop)]
+#[derive(Clone, Copy)]
 pub struct Traffic {
     pub message: u16, // message cycle timer
     pub fast: u16, // immediate transmissions left, document 01's fast count
@@ -40,7 +40,7 @@ pub struct Traffic {
 }
 
 // What the channel tells its host, by the abbreviation that document 01 prints.
-#[derive(Drop)]
+#[derive(Clone, Copy)]
 pub enum Note {
     Nothing,
     NetworkMode, // NM

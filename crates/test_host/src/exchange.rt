@@ -27,7 +27,7 @@ pub const WORDS: usize = 177;
 pub const NO_CALL: u32 = 255;
 
 #[repr(C)]
-#[derive(Drop)]
+#[derive(Clone, Copy)]
 pub struct Begun {
     pub answer: u32,
     pub rule: u32,
@@ -36,7 +36,7 @@ pub struct Begun {
 // What a call gave: the notes by their number (0 none, 1 NM, 2 ST, 3 PB, 4 BS, 5 TO, 6 RC, 7 RI), then whether EI and ER
 // were raised, and whether a frame was sent.
 #[repr(C)]
-#[derive(Drop)]
+#[derive(Clone, Copy)]
 pub struct Called {
     pub answer: u32,
     pub rule: u32,
@@ -48,7 +48,7 @@ pub struct Called {
 }
 
 #[repr(C)]
-#[derive(Drop)]
+#[derive(Clone, Copy)]
 pub struct Shown {
     pub answer: u32,
     pub rule: u32,

@@ -11,14 +11,14 @@ use pnc::{BitOf, NumberOf, PnRange, PncNumber, VectorBit};
 pub mod exchange;
 
 #[repr(C)]
-#[derive(Drop)]
+#[derive(Clone, Copy)]
 pub struct Composed {
     pub answer: u32,
     pub rule: u32,
 }
 
 #[repr(C)]
-#[derive(Drop)]
+#[derive(Clone, Copy)]
 pub struct Read {
     pub answer: u32,
     pub rule: u32,
@@ -27,7 +27,7 @@ pub struct Read {
 }
 
 #[repr(C)]
-#[derive(Drop)]
+#[derive(Clone, Copy)]
 pub struct Place {
     pub inside: u32,
     pub value: u32,

@@ -34,7 +34,7 @@ pub fn line_end(s: &[u8], at: usize) -> usize
 }
 
 // A line by the place of its first byte and the place past its last; the next line begins one behind that.
-#[derive(Drop)]
+#[derive(Clone, Copy)]
 pub enum Span {
     Line(usize, usize),
     End,

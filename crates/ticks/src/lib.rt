@@ -19,14 +19,14 @@ pub const PERIOD_MOST: u64 = 100;
 pub const TIME_MOST: u64 = 65535;
 
 // Ticks, or the configuration rule (1 or 2) that refuses the pair; of the two, one is 0.
-#[derive(Drop)]
+#[derive(Clone, Copy)]
 pub struct Conversion {
     pub rule: u8,
     pub ticks: u16,
 }
 
 // A bit of a quotient, and the remainder after it.
-#[derive(Drop)]
+#[derive(Clone, Copy)]
 struct QuotientBit {
     bit: u16,
     remainder: u32,

@@ -50,7 +50,7 @@ fn put_path(path: &mut [u8], name: &[u8], ending: &[u8]) -> usize
 }
 
 // Is a whole file in front of a buffer, and in how many bytes? A file without bytes is whole in 0.
-#[derive(Drop)]
+#[derive(Clone, Copy)]
 struct Got {
     whole: bool,
     n: usize,

@@ -12,7 +12,7 @@ use config::{Config, Ticks};
 use states::{Mode, Traffic};
 
 // What the rules here need of the configuration.
-#[derive(Drop)]
+#[derive(Clone, Copy)]
 pub struct Setup {
     pub ticks: Ticks,
     pub immediate: u16,

@@ -1,5 +1,4 @@
 -- `bits::bit_at` meets its contract: past the last byte every bit is 0. Assumes nothing.
-use borrow.Author.Rules.{rules}
 use Rattle.bits.proofs.Bits.{bit_past}
 use Rattle.bits.proofs.bit_at.Goals as goal
 

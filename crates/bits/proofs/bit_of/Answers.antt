@@ -1,6 +1,5 @@
 -- `bits::bit_of` meets its contract: past bit 7 a byte has no bits. Assumes nothing.
 use native.Mathlib.Omega.{arith}
-use borrow.Author.Rules.{rules}
 use Rattle.bits.proofs.Bits.{bit_above}
 use Rattle.bits.proofs.bit_of.Goals as goal
 

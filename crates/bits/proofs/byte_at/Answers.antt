@@ -1,6 +1,5 @@
 -- `bits::byte_at` meets its contract: past the end it is 0. Assumes nothing.
 use Prim.Native.Nat.{ℕ}
-use borrow.Author.Rules.{rules}
 use lib.ListN.{get_or-eq_default}
 use Rattle.bits.proofs.byte_at.Goals as goal
 

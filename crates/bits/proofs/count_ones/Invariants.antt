@@ -1,12 +1,8 @@
-use mathlib.Core.Path.{◌≡◌, refl}
+use mathlib.Core.Path.{◌≡◌}
 use Prim.Native.Nat.{◌-◌, ◌*◌, ◌≤◌}
-use native.Mathlib.Omega.{arith}
-use borrow.Author.Rules.{rules}
 use lib.ListN.{length, get_or}
-use lib.Count.{ones, ones-le}
+use lib.Count.{ones}
 use Rattle.bits.specs.Lists.{sum_below}
-use Rattle.bits.specs.Bits.{count_ones}
-use Rattle.bits.proofs.Lists.{sum_more, sum_done}
 use Rattle.bits.proofs.count_ones.Given as goal
 
 abbrev pub invariant-loop-i : goal.invariant-loop-i

@@ -1,10 +1,9 @@
 -- `bits::lowest_one` meets its contract: the first `i` bytes are 0. Assumes nothing.
-use mathlib.Core.Path.{◌≡◌, sym}
-use Prim.Native.Nat.{ℕ, ◌-◌, ◌≤◌, ◌<◌}
+use mathlib.Core.Path.{sym}
 use native.Mathlib.Omega.{arith}
 use borrow.Author.Count.{below_none, below_more}
 use borrow.Author.Rules.{rules}
-use lib.ListN.{length, get_or}
+use lib.ListN.{get_or}
 use lib.Count.{trailing_le}
 use Rattle.bits.proofs.Bits.{lowest_found, lowest_none}
 use Rattle.bits.proofs.lowest_one.Goals as goal

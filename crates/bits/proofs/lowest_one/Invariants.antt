@@ -1,11 +1,6 @@
-use mathlib.Core.Path.{◌≡◌, sym}
+use mathlib.Core.Path.{◌≡◌}
 use Prim.Native.Nat.{ℕ, ◌-◌, ◌≤◌, ◌<◌}
-use native.Mathlib.Omega.{arith}
-use borrow.Author.Count.{below_none, below_more}
-use borrow.Author.Rules.{rules}
 use lib.ListN.{length, get_or}
-use lib.Count.{trailing_le}
-use Rattle.bits.proofs.Bits.{lowest_found, lowest_none}
 use Rattle.bits.proofs.lowest_one.Given as goal
 
 abbrev pub invariant-loop-i : goal.invariant-loop-i

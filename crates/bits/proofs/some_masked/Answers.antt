@@ -1,13 +1,7 @@
 -- `bits::some_masked` meets its contract: `found` says whether one of the first `i` bytes has a one in the mask. Assumes nothing.
-use mathlib.Core.Path.{◌≡◌, refl}
-use mathlib.Core.Bool.{not}
-use Prim.Native.Nat.{◌-◌, ◌≤◌}
+use mathlib.Core.Path.{refl}
 use native.Mathlib.Omega.{arith}
 use borrow.Author.Rules.{rules}
-use lib.Bits.{bit_and}
-use lib.Dec.{eqb}
-use lib.ListN.{length, get_or}
-use Rattle.bits.specs.Lists.{any_below}
 use Rattle.bits.specs.Bits.{some_masked}
 use Rattle.bits.proofs.Lists.{any_more, any_done}
 use Rattle.bits.proofs.some_masked.Goals as goal

@@ -1,14 +1,10 @@
-use mathlib.Core.Path.{◌≡◌, refl}
+use mathlib.Core.Path.{◌≡◌}
 use mathlib.Core.Bool.{not}
 use Prim.Native.Nat.{◌-◌, ◌≤◌}
-use native.Mathlib.Omega.{arith}
-use borrow.Author.Rules.{rules}
 use lib.Bits.{bit_and}
 use lib.Dec.{eqb}
 use lib.ListN.{length, get_or}
 use Rattle.bits.specs.Lists.{any_below}
-use Rattle.bits.specs.Bits.{some_masked}
-use Rattle.bits.proofs.Lists.{any_more, any_done}
 use Rattle.bits.proofs.some_masked.Given as goal
 
 abbrev pub invariant-loop-i : goal.invariant-loop-i

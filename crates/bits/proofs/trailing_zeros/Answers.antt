@@ -1,6 +1,5 @@
 -- `bits::trailing_zeros` meets its contract: the count is at most 8, so it fits. Assumes nothing.
 use native.Mathlib.Omega.{arith}
-use borrow.Author.Rules.{rules}
 use lib.Count.{trailing_le}
 use Rattle.bits.proofs.trailing_zeros.Goals as goal
 

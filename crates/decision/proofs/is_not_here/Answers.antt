@@ -1,5 +1,4 @@
 -- `decision::is_not_here` meets its contract. Assumes nothing.
-use borrow.Author.Rules.{rules}
 use Rattle.decision.proofs.is_not_here.Goals as goal
 
 pub returns-in-Keep : goal.returns-in-Keep

@@ -1,5 +1,4 @@
 -- `print::hex_digit` meets its contract. Assumes nothing.
-use borrow.Author.Rules.{rules}
 use Rattle.print.proofs.Hex.{digit_decimal, digit_letter}
 use Rattle.print.proofs.hex_digit.Goals as goal
 

@@ -1,6 +1,5 @@
 -- `print::put` meets its contract. Assumes nothing.
 use mathlib.Core.Path.{refl}
-use borrow.Author.Rules.{rules}
 use Rattle.print.proofs.put.Goals as goal
 
 pub returns : goal.returns

@@ -23,18 +23,3 @@ pub returns : goal.returns
 returns c =
     let l = c.loop-m in
     record { next = omega arith; list = sym (l.invariant.0 ∙ only_digit l.out _ l.m (omega arith) c.digit-2.ensures) }
-
-pub overflow_add-end : goal.overflow_add-end
-overflow_add-end c = omega (arith, length_number c.args.n)
-
-pub loop-m-init : goal.loop-m-init
-loop-m-init c = (refl, omega arith, refl, omega arith)
-
-pub overflow_sub-i : goal.overflow_sub-i
-overflow_sub-i c = omega (arith, length_long c.loop-m.m (omega arith) (omega (arith, c.loop-m-test.true)))
-
-pub bounds-out-i : goal.bounds-out-i
-bounds-out-i c = omega (arith, length_number c.loop-m.m)
-
-pub shape_of-out : goal.shape_of-out
-shape_of-out c = simp length-set (omega arith)

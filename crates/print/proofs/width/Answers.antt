@@ -1,9 +1,7 @@
 -- `print::width` meets its contract. The loop's invariant: `w` digits, and those of what is left behind them. Assumes nothing.
-use mathlib.Core.Path.{◌≡◌, refl, sym, ap, ◌∙◌}
-use Prim.Native.Nat.{ℕ, ◌-◌, ◌+◌, ◌/◌, ◌^◌, ◌≤◌}
+use mathlib.Core.Path.{refl, sym, ap, ◌∙◌}
+use Prim.Native.Nat.{ℕ, ◌+◌}
 use native.Mathlib.Omega.{arith}
-use lib.ListN.{length}
-use Rattle.print.specs.Print.{number_text}
 use Rattle.print.proofs.Numbers.{width_start, width_one, width_more, width_last, power_small, power_more}
 use Rattle.print.proofs.width.Goals as goal
 

@@ -1,9 +1,7 @@
-use mathlib.Core.Path.{◌≡◌, refl, sym, ap, ◌∙◌}
-use Prim.Native.Nat.{ℕ, ◌-◌, ◌+◌, ◌/◌, ◌^◌, ◌≤◌}
-use native.Mathlib.Omega.{arith}
+use mathlib.Core.Path.{◌≡◌}
+use Prim.Native.Nat.{◌-◌, ◌+◌, ◌/◌, ◌^◌, ◌≤◌}
 use lib.ListN.{length}
 use Rattle.print.specs.Print.{number_text}
-use Rattle.print.proofs.Numbers.{width_start, width_one, width_more, width_last, power_small, power_more}
 use Rattle.print.proofs.width.Given as goal
 
 abbrev pub invariant-loop-w : goal.invariant-loop-w

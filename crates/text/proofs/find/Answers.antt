@@ -1,9 +1,5 @@
 -- `text::find` meets its contract. The loop's invariant: what is found from the start on is what is found from `i` on. Assumes nothing.
-use mathlib.Core.Path.{◌≡◌, refl, sym, ◌∙◌}
-use Prim.Native.Nat.{◌+◌, ◌-◌}
-use native.Mathlib.Omega.{arith}
-use lib.ListN.{length, drop}
-use Rattle.text.specs.Lines.{until}
+use mathlib.Core.Path.{refl, sym, ◌∙◌}
 use Rattle.text.proofs.Lines.{until_end, until_hit, until_miss}
 use Rattle.text.proofs.find.Goals as goal
 

@@ -20,3 +20,6 @@ returns c =
     let a = c.args in
     rw (c.covers.ensures, ← within a.period a.ms c.if-period-lt-PERIOD_LEAST.false c.if-period-gt-PERIOD_MOST.false c.if-ms-gt-TIME_MOST.false)
     (covers_is a.period a.ticks a.ms (omega arith))
+
+pub covers-requires : goal.covers-requires
+covers-requires c = (omega arith, omega arith)

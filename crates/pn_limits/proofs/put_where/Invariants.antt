@@ -1,0 +1,11 @@
+use Prim.Native.Nat.{◌-◌}
+use lib.ListN.{length}
+use Rattle.timers.specs.Timers.{limit_at}
+use Rattle.bits.proofs.Lists.{Upto}
+use Rattle.pn_limits.proofs.put_where.Given as goal
+
+abbrev pub invariant-loop-i : goal.invariant-loop-i
+invariant-loop-i l = Upto (λ k t. limit_at l.mask l.reset k) l.initial.limits l.limits l.i
+
+abbrev pub decreases-loop-i : goal.decreases-loop-i
+decreases-loop-i l = length l.limits - l.i

@@ -1,0 +1,11 @@
+-- `traffic::heard_in_ready` meets its contract. Assumes nothing.
+use Rattle.traffic.specs.Traffic.{heard_in_ready}
+use Rattle.traffic.proofs.heard_in_ready.Goals as goal
+
+pub returns-then-again : goal.returns-then-again
+unfolding heard_in_ready
+returns-then-again c = rw (c.to_repeat.ensures, c.if-again.true)
+
+pub returns : goal.returns
+unfolding heard_in_ready
+returns c = rw c.if-again.false

@@ -1,0 +1,11 @@
+-- `vectors::digit` meets its contract. Assumes nothing.
+use mathlib.Core.Path.{refl}
+use native.Mathlib.Omega.{arith}
+use borrow.Author.Tests.{eq-eqb, ne_eqb}
+use Rattle.vectors.proofs.digit.Goals as goal
+
+pub returns-then-t-eq0 : goal.returns-then-t-eq0
+returns-then-t-eq0 c = rw (eq-eqb _ _ c.if-t-eq0.true) (refl, omega arith)
+
+pub returns-else-t-eq0 : goal.returns-else-t-eq0
+returns-else-t-eq0 c = rw (ne_eqb _ _ c.if-t-eq0.false) (refl, omega arith)

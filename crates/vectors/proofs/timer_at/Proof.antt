@@ -1,9 +1,0 @@
--- `vectors::timer_at` meets its contract: past the end it is 0. Assumes nothing.
-use Prim.Native.Nat.{ℕ}
-use borrow.Author.Rules.{rules}
-use lib.ListN.{get_or-eq_default}
-use Rattle.vectors.proofs.timer_at.Statement.{statement}
-use Rattle.vectors.proofs.timer_at.Tie as tie
-
-pub timer-at-spec : {M : Type 1} → statement M
-timer-at-spec = tie.close (tie.spec (λ c. search rules) (λ c. search rules) (λ c. search rules) (λ c. rw (get_or-eq_default {A = ℕ} _ 0 c.if1.false)))
