@@ -1,11 +1,8 @@
 -- `print::put_number` meets its contract. The loop's invariant: what is to be written of `n` is what is left to be written
 -- of `m`, which ends before `i`. Assumes nothing.
-use mathlib.Core.Path.{◌≡◌, refl, sym, ◌∙◌}
-use Prim.Native.Nat.{◌+◌, ◌≤◌}
+use mathlib.Core.Path.{refl, sym, ◌∙◌}
 use native.Mathlib.Omega.{arith}
-use lib.ListN.{length, length-set}
-use lib.Seq.{sets}
-use Rattle.print.specs.Print.{number_text}
+use lib.ListN.{length-set}
 use Rattle.print.proofs.Numbers.{length_number, length_long, one_less, last_digit, only_digit}
 use Rattle.print.proofs.put_number.Goals as goal
 
@@ -23,3 +20,15 @@ pub returns : goal.returns
 returns c =
     let l = c.loop-m in
     record { next = omega arith; list = sym (l.invariant.0 ∙ only_digit l.out _ l.m (omega arith) c.digit-2.ensures) }
+
+pub overflow_add-end : goal.overflow_add-end
+overflow_add-end c = omega (arith, length_number c.args.n)
+
+pub loop-m-init : goal.loop-m-init
+loop-m-init c = (refl, omega arith, refl, omega arith)
+
+pub overflow_sub-i : goal.overflow_sub-i
+overflow_sub-i c = omega (arith, length_long c.loop-m.m (omega arith) (omega (arith, c.loop-m-test.true)))
+
+pub bounds-out-i : goal.bounds-out-i
+bounds-out-i c = omega (arith, length_number c.loop-m.m)

@@ -1,10 +1,8 @@
-use mathlib.Core.Path.{◌≡◌, refl, sym, ◌∙◌}
+use mathlib.Core.Path.{◌≡◌}
 use Prim.Native.Nat.{◌+◌, ◌≤◌}
-use native.Mathlib.Omega.{arith}
-use lib.ListN.{length, length-set}
+use lib.ListN.{length}
 use lib.Seq.{sets}
 use Rattle.print.specs.Print.{number_text}
-use Rattle.print.proofs.Numbers.{length_number, length_long, one_less, last_digit, only_digit}
 use Rattle.print.proofs.put_number.Given as goal
 
 abbrev pub invariant-loop-m : goal.invariant-loop-m

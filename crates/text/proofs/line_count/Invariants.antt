@@ -1,9 +1,7 @@
-use mathlib.Core.Path.{◌≡◌, ap}
+use mathlib.Core.Path.{◌≡◌}
 use Prim.Native.Nat.{◌+◌, ◌-◌, ◌≤◌}
-use native.Mathlib.Omega.{arith}
 use lib.ListN.{length, drop}
-use Rattle.text.specs.Lines.{line_feed, lines_of}
-use Rattle.text.proofs.Lines.{found_le, lines_at, lines_none}
+use Rattle.text.specs.Lines.{lines_of}
 use Rattle.text.proofs.line_count.Given as goal
 
 abbrev pub invariant-loop-at : goal.invariant-loop-at
