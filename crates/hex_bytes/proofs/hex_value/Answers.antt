@@ -1,0 +1,1 @@
+-- `hex_bytes::hex_value` meets its contract. Assumes nothing.

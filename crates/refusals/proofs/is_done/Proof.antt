@@ -1,6 +1,0 @@
--- `refusals::is_done` meets its contract. Assumes nothing.
-use Rattle.refusals.proofs.is_done.Statement.{statement}
-use Rattle.refusals.proofs.is_done.Tie as tie
-
-pub is-done-spec : {M : Type 1} → statement M
-is-done-spec = tie.close (tie.spec (λ c. c.match.keys1) (λ c. c.match.keys2) (λ c. c.match.keys3) (λ c. c.match.keys4) (λ c. c.match.keys5) (λ c. c.match.keys6) (λ c. c.match.keys7) (λ c. rw c.enum_told.given.1) (λ c. rw c.enum-told2.given.1) (λ c. rw c.enum-told3.given.1) (λ c. rw c.enum-told4.given.1) (λ c. rw c.enum-told5.given.1) (λ c. rw c.enum-told6.given.1) (λ c. rw c.enum-told7.given.1))

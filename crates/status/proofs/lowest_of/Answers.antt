@@ -1,0 +1,8 @@
+-- `status::lowest_of` meets its contract. Assumes nothing.
+use mathlib.Core.Path.{sym, ap, ◌∙◌}
+use Rattle.channel.specs.Channel.{lowest_pnc}
+use Rattle.status.proofs.lowest_of.Goals as goal
+
+pub returns-in-Nowhere : goal.returns-in-Nowhere
+returns-in-Nowhere c =
+    ap (lowest_pnc c.args.c) (sym c.in-Nowhere.is ∙ c.lowest_one-k.ensures)

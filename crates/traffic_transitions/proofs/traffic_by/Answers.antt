@@ -1,0 +1,87 @@
+-- `traffic_transitions::traffic_by` meets its contract. Assumes nothing.
+use Rattle.traffic_transitions.specs.TrafficTransitions.{traffic_by}
+use Rattle.traffic_transitions.proofs.traffic_by.Goals as goal
+
+pub returns-in-Keep : goal.returns-in-Keep
+unfolding traffic_by
+returns-in-Keep c = rw c.in-Keep.is
+
+pub returns-in-NotHere : goal.returns-in-NotHere
+unfolding traffic_by
+returns-in-NotHere c = rw c.in-NotHere.is
+
+pub returns-in-WakeUp : goal.returns-in-WakeUp
+unfolding traffic_by
+returns-in-WakeUp c = rw (c.to_repeat.ensures, c.in-WakeUp.is)
+
+pub returns-in-ActiveWakeUp : goal.returns-in-ActiveWakeUp
+unfolding traffic_by
+returns-in-ActiveWakeUp c = rw (c.to_repeat_active.ensures, c.in-ActiveWakeUp.is)
+
+pub returns-in-Request : goal.returns-in-Request
+unfolding traffic_by
+returns-in-Request c = rw c.in-Request.is
+
+pub returns-in-ToNormal : goal.returns-in-ToNormal
+unfolding traffic_by
+returns-in-ToNormal c = rw (c.to_normal.ensures, c.in-ToNormal.is)
+
+pub returns-in-Release : goal.returns-in-Release
+unfolding traffic_by
+returns-in-Release c = rw c.in-Release.is
+
+pub returns-in-ToReady : goal.returns-in-ToReady
+unfolding traffic_by
+returns-in-ToReady c = rw (c.to_ready.ensures, c.in-ToReady.is)
+
+pub returns-in-Repeat : goal.returns-in-Repeat
+unfolding traffic_by
+returns-in-Repeat c = rw (c.to_repeat_asked.ensures, c.in-Repeat.is)
+
+pub returns-in-Disable : goal.returns-in-Disable
+unfolding traffic_by
+returns-in-Disable c = rw c.in-Disable.is
+
+pub returns-in-Enable : goal.returns-in-Enable
+unfolding traffic_by
+returns-in-Enable c = rw (c.resumed.ensures, c.in-Enable.is)
+
+pub returns-in-Confirm : goal.returns-in-Confirm
+unfolding traffic_by
+returns-in-Confirm c = rw c.in-Confirm.is
+
+pub returns-in-Start : goal.returns-in-Start
+unfolding traffic_by
+returns-in-Start c = rw c.in-Start.is
+
+pub returns-in-HeardInRepeat : goal.returns-in-HeardInRepeat
+unfolding traffic_by
+returns-in-HeardInRepeat c = rw c.in-HeardInRepeat.is
+
+pub returns-in-HeardInNormal : goal.returns-in-HeardInNormal
+unfolding traffic_by
+returns-in-HeardInNormal c = rw (c.heard_in_normal.ensures, c.in-HeardInNormal.is)
+
+pub returns-in-HeardInReady : goal.returns-in-HeardInReady
+unfolding traffic_by
+returns-in-HeardInReady c = rw (c.heard_in_ready.ensures, c.in-HeardInReady.is)
+
+pub returns-in-FilterOn : goal.returns-in-FilterOn
+unfolding traffic_by
+returns-in-FilterOn c = rw c.in-FilterOn.is
+
+pub returns-in-TickInPrepare : goal.returns-in-TickInPrepare
+unfolding traffic_by
+returns-in-TickInPrepare c = rw c.in-TickInPrepare.is
+
+pub returns-in-TickInRepeat : goal.returns-in-TickInRepeat
+unfolding traffic_by
+returns-in-TickInRepeat c = rw (c.in_repeat.ensures, c.in-TickInRepeat.is)
+
+pub returns-in-TickInNormal : goal.returns-in-TickInNormal
+unfolding traffic_by
+returns-in-TickInNormal c = rw (c.in_normal.ensures, c.in-TickInNormal.is)
+
+pub returns-in-TickInReady : goal.returns-in-TickInReady
+unfolding traffic_by
+returns-in-TickInReady c = rw (c.in_ready.ensures, c.in-TickInReady.is)
