@@ -79,7 +79,8 @@ step_together {t} f c {m} {b} y x = go (is_done (refusal c m.state x)) refl
 pub run_together : {t : Ticks} → Fit t → (c : Config) {m : Mode} {b : Summary} → Together t m b → (xs : List Call)
     → Together t (mode_run c t m xs) (history c t b xs)
 run_together f c y [] = y
-run_together f c y (x ∷ xs) = run_together f c (step_together f c y x) xs
+run_together {t = t} f c {m = m} {b = b} y (x ∷ xs) =
+    run_together f c {m = mode_step c t m x} {b = summarised c t b x} (step_together f c y x) xs
 
 pub reached_together : (c : Config) {t : Ticks} → Fit t → (xs : List Call) → Together t (mode_run c t fresh_mode xs) (history c t blank xs)
 reached_together c f xs = run_together f c (asleep tt) xs

@@ -19,8 +19,8 @@ use Rattle.states.specs.declared.Mode.{Mode}
 use Rattle.decision.specs.Decision.{Call}
 use Rattle.traffic.specs.Traffic.{setup_of}
 use Rattle.channel.specs.declared.state.Channel.{Channel}
-use Rattle.channel.specs.Channel.{fresh, fresh_mode, fresh_traffic, sound}
-use Rattle.sleep.specs.Summary.{none, Summary, blank, history}
+use Rattle.channel.specs.Channel.{replied, fresh, fresh_mode, fresh_traffic, sound}
+use Rattle.sleep.specs.Summary.{summarised, none, Summary, blank, history}
 use Rattle.sleep.specs.Sleep.{Told, told, Enters, Due, Sleeps, after, reached, EveryChannelSleeps}
 use Rattle.sleep.proofs.Simulation.{Fit, asleep}
 use Rattle.sleep.proofs.Entering.{mode_step, mode_run, agree, entered, reached_together}
@@ -70,7 +70,9 @@ module _ (c : Config) (t : Ticks) (f : Fit t) (A : Type 0) (mode : List A → Mo
 run_whole : {c : Config} {t : Ticks} → Passed c t → {ch : Channel} {b : Summary} → Whole c t ch b → (xs : List Call)
     → Whole c t (after ch xs) (history c t b xs) × ((after ch xs).own.mode ≡ mode_run c t ch.own.mode xs)
 run_whole g w [] = (w, refl)
-run_whole g w (x ∷ xs) = let n = step_whole g w x in let r = run_whole g n.0 xs in (r.0, rw (← n.1) r.1)
+run_whole {c = c} {t = t} g {ch = ch} {b = b} w (x ∷ xs) =
+    let n = step_whole g w x in
+    let r = run_whole g {ch = (replied ch x).channel} {b = summarised c t b x} n.0 xs in (r.0, rw (← n.1) r.1)
 
 begin : (c : Config) (t : Ticks) → Whole c t (fresh c t) blank
 unfolding fresh

@@ -2,7 +2,6 @@
 use mathlib.Core.Path.{sym}
 use native.Mathlib.Omega.{arith}
 use lib.ListN.{get_or-eq_default}
-use Rattle.decision.proofs.Table.{next}
 use Rattle.command_names.specs.declared.Asked.TheVariants.{Unreadable}
 use Rattle.command_names.specs.CommandNames.{alone, alone_table}
 use Rattle.command_names.proofs.alone.Goals as goal
@@ -42,3 +41,7 @@ returns-in-7 c = rw c.in-7.is
 pub returns-in-8 : goal.returns-in-8
 unfolding alone
 returns-in-8 c = rw c.in-8.is
+
+pub returns-in_default : goal.returns-in_default
+unfolding alone
+returns-in_default c = sym (get_or-eq_default alone_table Unreadable {n = c.args.name} (omega arith))

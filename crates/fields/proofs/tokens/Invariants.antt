@@ -1,13 +1,10 @@
-use mathlib.Core.Path.{◌≡◌, refl, ap, ◌∙◌}
+use mathlib.Core.Path.{◌≡◌}
 use mathlib.Core.List.{map}
 use Prim.Native.Nat.{◌-◌, ◌+◌, ◌≤◌}
-use native.Mathlib.Omega.{arith}
-use lib.ListN.{length, length-set}
-use Rattle.text.proofs.Lines.{found_le}
-use Rattle.fields.specs.Fields.{fields_from, tab}
+use lib.ListN.{length}
+use Rattle.fields.specs.Fields.{fields_from}
 use Rattle.fields.specs.Numbers.{token_of, tokens_of}
-use Rattle.fields.proofs.Fields.{fields_start, fields_at, fields_end}
-use Rattle.text.proofs.Filling.{Filling, filling_start, filling_one, filling_end}
+use Rattle.text.proofs.Filling.{Filling}
 use Rattle.fields.proofs.tokens.Given as goal
 
 abbrev pub invariant-loop-at : goal.invariant-loop-at

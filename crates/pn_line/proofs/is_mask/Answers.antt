@@ -4,24 +4,20 @@ use native.Mathlib.Omega.{arith}
 use borrow.Author.Tests.{lt-ltb, le-ltb, ne_eqb}
 use Rattle.choice.proofs.Tests.{same_eqb}
 use Rattle.pn_line.specs.PnLine.{is_mask}
-use Rattle.pn_line.proofs.is_mask.Statement.{statement}
-use Rattle.pn_line.proofs.is_mask.Tie as tie
+use Rattle.pn_line.proofs.is_mask.Goals as goal
 
-returns : tie.Need-returns
+pub returns-then-pairs-eq0 : goal.returns-then-pairs-eq0
 unfolding is_mask
-returns c = rw (le-ltb 0 c.before.args.pairs (omega arith))
+returns-then-pairs-eq0 c = rw (le-ltb 0 c.args.pairs (omega arith))
 
-returns-2 : tie.Need-returns-2
+pub returns-then-pairs-bytes : goal.returns-then-pairs-bytes
 unfolding is_mask
-returns-2 c =
-    let a = c.before.before.args in
+returns-then-pairs-bytes c =
+    let a = c.args in
     rw (lt-ltb 0 a.pairs (omega arith)) (same_eqb (a.bytes - a.pairs) a.pairs (2 * a.pairs) a.bytes (λ h. omega arith) (λ h. omega arith))
 
-returns-3 : tie.Need-returns-3
+pub returns : goal.returns
 unfolding is_mask
-returns-3 c =
-    let a = c.before.before.args in
+returns c =
+    let a = c.args in
     rw (lt-ltb 0 a.pairs (omega arith), ne_eqb (2 * a.pairs) a.bytes (λ h. omega arith))
-
-pub is-mask-spec : {M : Type 1} → statement M
-is-mask-spec = tie.close (tie.spec returns returns-2 returns-3)
