@@ -14,7 +14,6 @@ use Rattle.config.specs.declared.Config.{Config}
 use Rattle.config.specs.declared.Ticks.{Ticks}
 use Rattle.rules.specs.Rules.{first_broken}
 use Rattle.time_rules.specs.TimeRules.{ticks_for}
-use Rattle.rules.proofs.Passes.{passes}
 use Rattle.filter.specs.Filter.{informs}
 use Rattle.states.specs.declared.Mode.{Mode}
 use Rattle.states.specs.declared.Traffic.{Traffic}
@@ -36,7 +35,6 @@ use Rattle.decision.specs.Decision.{
   status,
   main_function,
 }
-use Rattle.modes.specs.Mode.{mode}
 use Rattle.traffic.specs.Traffic.{setup_of}
 use Rattle.sending.specs.Sending.{framing}
 use Rattle.kept_ticks.specs.KeptTicks.{configured, same_ticks}
@@ -53,7 +51,7 @@ use Rattle.sleep.proofs.Simulation.{Fit, Together, asleep, waiting, live, held, 
 use Rattle.sleep.proofs.Entering as entering
 use Rattle.sleep.proofs.Entering.{mode_step, cleared, done, moved}
 use Rattle.sleep.proofs.Quieting.{same}
-use Rattle.sleep.proofs.Passing.{Tuned, fit, tuned}
+use Rattle.sleep.proofs.Passing.{Tuned}
 use Rattle.sleep.proofs.PnTimers.{loaded_within, part_short}
 use Rattle.sleep.proofs.Traffic.{TrafficOk, framed_ok, never, only_right, traffic_sound_law}
 use Rattle.sleep.proofs.Kept.{Meek, moved_part, traffic_kept}

@@ -1,5 +1,4 @@
 -- `config_line::config_of` meets its contract. Assumes nothing.
-use borrow.Author.Rules.{rules}
 use Rattle.config_line.specs.ConfigLine.{config_of}
 use Rattle.config_line.proofs.config_of.Goals as goal
 

@@ -1,6 +1,5 @@
 -- `config_line::config_reads` meets its contract. Assumes nothing.
 use Rattle.config_line.specs.ConfigLine.{config_reads}
-use borrow.Author.Rules.{rules}
 use Rattle.config_line.proofs.config_reads.Goals as goal
 
 pub returns : goal.returns

@@ -1,6 +1,5 @@
 -- `config_line::read_config` meets its contract. Assumes nothing.
 use mathlib.Core.Path.{ap}
-use borrow.Author.Rules.{rules}
 use Rattle.text.specs.Filled.{Filled}
 use Rattle.config_line.specs.ConfigLine.{read_config}
 use Rattle.config_line.proofs.read_config.Goals as goal

@@ -1,6 +1,5 @@
 -- `pn_line::partial_reads` meets its contract. Assumes nothing.
 use Rattle.pn_line.specs.PnLine.{partial_reads}
-use borrow.Author.Rules.{rules}
 use Rattle.pn_line.proofs.partial_reads.Goals as goal
 
 pub returns : goal.returns

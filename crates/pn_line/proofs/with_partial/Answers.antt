@@ -1,5 +1,4 @@
 -- `pn_line::with_partial` meets its contract. Assumes nothing.
-use borrow.Author.Rules.{rules}
 use mathlib.Core.Path.{refl}
 use Rattle.pn_line.specs.PnLine.{with_partial}
 use Rattle.pn_line.proofs.with_partial.Goals as goal

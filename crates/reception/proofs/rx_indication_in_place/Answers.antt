@@ -1,8 +1,5 @@
 -- `reception::rx_indication_in_place` meets its contract. Assumes nothing.
 use mathlib.Core.Path.{◌≡◌, sym, ◌∙◌}
-use mathlib.Core.List.{List}
-use Prim.Native.Nat.{ℕ}
-use Rattle.channel.specs.declared.state.Channel.{Channel}
 use Rattle.decision.specs.Decision.{rx_indication}
 use Rattle.refusals.specs.Refusals.{refusal}
 use Rattle.channel.specs.Channel.{answer_of, refused, sound}

@@ -1,5 +1,4 @@
 -- `tick::main_function` meets its contract. Assumes nothing.
-use borrow.Author.Rules.{rules}
 use Rattle.tick.proofs.main_function.Goals as goal
 
 pub returns : goal.returns
