@@ -368,8 +368,7 @@ fn is_call(call: u32) -> bool {
 }
 
 // Initialises a channel of a configuration.
-#[unsafe(no_mangle)]
-pub extern "C" fn test_initialise(numbers: &[u64], mask: &[u8], words: &mut [u64]) -> Begun {
+pub fn test_initialise(numbers: &[u64], mask: &[u8], words: &mut [u64]) -> Begun {
     let s = Channel::initialise(super::config_of(numbers, mask));
     let a = s.answer;
     put_channel(words, s.channel);
@@ -381,8 +380,7 @@ pub extern "C" fn test_initialise(numbers: &[u64], mask: &[u8], words: &mut [u64
 
 // Every call but status (11). The flag is the confirmation's or the main function's, the bytes are those of the calls
 // that take some, and the frame is the main function's.
-#[unsafe(no_mangle)]
-pub extern "C" fn test_call(
+pub fn test_call(
     words: &mut [u64],
     call: u32,
     flag: u32,
@@ -410,8 +408,7 @@ fn put_vector(vector: &[u8; PN_MOST], out: &mut [u8]) {
 }
 
 // Status, with both vectors in the first seven of the lent bytes and 0 behind them.
-#[unsafe(no_mangle)]
-pub extern "C" fn test_status(words: &[u64], era: &mut [u8], eira: &mut [u8]) -> Shown {
+pub fn test_status(words: &[u64], era: &mut [u8], eira: &mut [u8]) -> Shown {
     let s = status::status(channel_in(words));
     let a = s.answer;
     let first = s.era;

@@ -2,7 +2,7 @@
 // independent implementation. Nothing of the product stands on this crate.
 //
 // Promises: nothing of its results, only that each function ends and goes without an error. Leaves to others: what a C host
-// is given (`cannm_c`), and the calls themselves.
+// is given (`cannm_c`), the calls themselves, and the symbols for C (`test_host_c`).
 #![tactic(auto)]
 
 use config::{Config, Layout, PDU_MOST, Partial, Times};
@@ -89,13 +89,11 @@ fn config_of(n: &[u64], mask: &[u8]) -> Config {
     }
 }
 
-#[unsafe(no_mangle)]
-pub extern "C" fn test_first_broken_rule(numbers: &[u64], mask: &[u8]) -> u32 {
+pub fn test_first_broken_rule(numbers: &[u64], mask: &[u8]) -> u32 {
     rules::first_broken_rule(config_of(numbers, mask)) as u32
 }
 
-#[unsafe(no_mangle)]
-pub extern "C" fn test_compose(
+pub fn test_compose(
     numbers: &[u64],
     mask: &[u8],
     sni: u32,
@@ -112,8 +110,7 @@ pub extern "C" fn test_compose(
     }
 }
 
-#[unsafe(no_mangle)]
-pub extern "C" fn test_read(
+pub fn test_read(
     numbers: &[u64],
     mask: &[u8],
     pdu: &[u8],
@@ -137,8 +134,7 @@ fn range_of(start: u32, length: u32) -> PnRange {
     }
 }
 
-#[unsafe(no_mangle)]
-pub extern "C" fn test_pnc_number(start: u32, length: u32, bit: u32) -> Place {
+pub fn test_pnc_number(start: u32, length: u32, bit: u32) -> Place {
     let n = VectorBit(bit).number(range_of(start, length));
     match n {
         NumberOf::Number(p) => Place {
@@ -152,8 +148,7 @@ pub extern "C" fn test_pnc_number(start: u32, length: u32, bit: u32) -> Place {
     }
 }
 
-#[unsafe(no_mangle)]
-pub extern "C" fn test_pnc_bit(start: u32, length: u32, number: u32) -> Place {
+pub fn test_pnc_bit(start: u32, length: u32, number: u32) -> Place {
     let b = PncNumber(number).bit(range_of(start, length));
     match b {
         BitOf::Bit(v) => Place {

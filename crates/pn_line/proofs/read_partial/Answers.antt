@@ -1,6 +1,5 @@
 -- `pn_line::read_partial` meets its contract. Assumes nothing.
 use mathlib.Core.Path.{ap}
-use borrow.Author.Rules.{rules}
 use Rattle.text.specs.Filled.{Filled}
 use Rattle.pn_line.specs.PnLine.{read_partial}
 use Rattle.pn_line.proofs.read_partial.Goals as goal
