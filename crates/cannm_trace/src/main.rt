@@ -5,7 +5,8 @@
 // written; that they are the input's and the text's is tested.
 #![tactic(auto)]
 
-use libc::{STDIN_FILENO, STDOUT_FILENO};
+use std::io;
+use std::io::{Read, Write};
 use trace::{BLOCK_MOST, BLOCK_ROOM, Trace};
 
 // ---- sizes
@@ -19,47 +20,39 @@ const OUTPUT: usize = 131072;
 // ---- writing
 
 // The first n bytes of the output are written.
-fn written(out: &[u8], n: usize) -> bool {
-    io::write_all(STDOUT_FILENO, slices::part(out, 0, n))
+fn written<W: Write>(to: &mut W, out: &[u8], n: usize) -> io::Result<()> {
+    to.write_all(slices::part(out, 0, n))
 }
 
-// How many bytes of the output hold text that is still to be written, and whether every write so far succeeded.
-#[derive(Clone, Copy)]
-struct Held {
+// Text behind the first n bytes of the output. Where it has no room there, these are written first. Answers how many bytes of
+// the output hold text that is still to be written.
+fn append<W: Write>(
+    to: &mut W,
+    out: &mut [u8; OUTPUT],
     n: usize,
-    ok: bool,
-}
-
-// Text behind the first n bytes of the output. Where it has no room there, these are written first.
-fn append(out: &mut [u8; OUTPUT], n: usize, text: &[u8]) -> Held {
+    text: &[u8],
+) -> io::Result<usize> {
     if slices::part(out, n, text.len()).len() == text.len() {
         slices::put_part(out, n, text);
-        return Held {
-            n: n + text.len(),
-            ok: true,
-        };
+        return Ok(n + text.len());
     }
-    let ok = written(out, n);
+    written(to, out, n)?;
     slices::copy(text, out);
-    Held {
-        n: text.len(),
-        ok: ok,
-    }
+    Ok(text.len())
 }
 
 // ---- blocks
 
-// The trace between two blocks, and whether there is to be another.
-#[derive(Clone, Copy)]
-struct State {
+// What was read, block by block, and all that it prints is written. Answers the trace behind it, or none where no block is to
+// follow. After a write that fails, nothing more is written. No input is so long that a block is refused; should one be, nothing
+// more is printed: what the lines behind it would have said is not known.
+fn blocks<W: Write>(
+    to: &mut W,
     trace: Trace,
-    more: bool,
-}
-
-// What was read, block by block, and all that it prints is written. After a write that fails, nothing more is written. No input
-// is so long that a block is refused; should one be, nothing more is printed: what the lines behind it would have said is not
-// known.
-fn blocks(trace: Trace, text: &[u8], page: &mut [u8; BLOCK_ROOM], out: &mut [u8; OUTPUT]) -> State {
+    text: &[u8],
+    page: &mut [u8; BLOCK_ROOM],
+    out: &mut [u8; OUTPUT],
+) -> io::Result<Option<Trace>> {
     let mut now = trace;
     let mut ok = true;
     let mut n: usize = 0;
@@ -68,79 +61,71 @@ fn blocks(trace: Trace, text: &[u8], page: &mut [u8; BLOCK_ROOM], out: &mut [u8;
         let r = trace::block(now, slices::part(text, at, BLOCK_MOST), page);
         let answer = r.answer;
         now = r.trace;
-        let held = append(out, n, slices::part(page, 0, r.at));
-        if !held.ok {
-            return State {
-                trace: now,
-                more: false,
-            };
-        }
-        n = held.n;
+        n = append(to, out, n, slices::part(page, 0, r.at))?;
         ok = refusals::is_done(answer);
         if !ok {
             break;
         }
         at += BLOCK_MOST;
     }
-    State {
-        trace: now,
-        more: ok & written(out, n),
-    }
+    written(to, out, n)?;
+    Ok(if ok { Some(now) } else { None })
 }
 
 // The end of the input.
-fn end(trace: Trace, page: &mut [u8; BLOCK_ROOM]) {
+fn end<W: Write>(to: &mut W, trace: Trace, page: &mut [u8; BLOCK_ROOM]) -> io::Result<()> {
     let r = trace::end(trace, page);
-    written(page, r.at);
+    written(to, page, r.at)
 }
 
 // ---- the loop
 
-// One read, and what it brings. After a write that fails, nothing more is read. After a read that fails, nothing more is
-// printed: what the unfinished line would have said is not known.
-fn turn(
+// One read, and what it brings; the answer is as that of `blocks`. After a write that fails, nothing more is read. After a read
+// that fails, nothing more is printed: what the unfinished line would have said is not known.
+fn turn<R: Read, W: Write>(
+    from: &mut R,
+    to: &mut W,
     trace: Trace,
     buf: &mut [u8; INPUT],
     page: &mut [u8; BLOCK_ROOM],
     out: &mut [u8; OUTPUT],
-) -> State {
-    let got = libc::read(STDIN_FILENO, buf);
-    if got < 0 {
-        return State {
-            trace: trace,
-            more: false,
-        };
+) -> io::Result<Option<Trace>> {
+    let n = from.read(buf)?;
+    if n == 0 {
+        end(to, trace, page)?;
+        return Ok(None);
     }
-    if got == 0 {
-        end(trace, page);
-        return State {
-            trace: trace,
-            more: false,
-        };
-    }
-    let n = io::count(got, buf);
-    blocks(trace, slices::part(buf, 0, n), page, out)
+    blocks(to, trace, slices::part(buf, 0, n), page, out)
 }
 
 // The turns are counted only so that the loop is seen to end: there are more than any input has bytes.
-fn run_all(buf: &mut [u8; INPUT], page: &mut [u8; BLOCK_ROOM], out: &mut [u8; OUTPUT]) {
-    let mut st = State {
-        trace: trace::start(),
-        more: true,
-    };
-    let mut turns = 18446744073709551615u64;
-    while 0 < turns {
-        st = turn(st.trace, buf, page, out);
-        if !st.more {
-            break;
+fn run_all<R: Read, W: Write>(
+    from: &mut R,
+    to: &mut W,
+    buf: &mut [u8; INPUT],
+    page: &mut [u8; BLOCK_ROOM],
+    out: &mut [u8; OUTPUT],
+) -> io::Result<()> {
+    let mut now = trace::start();
+    for _ in 0..u64::MAX {
+        match turn(from, to, now, buf, page, out)? {
+            Some(next) => now = next,
+            None => return Ok(()),
         }
-        turns -= 1;
     }
+    Ok(())
 }
 
-fn main() {
+// A read or a write that fails ends the run, and the exit status is 0 then too.
+fn main(rt: HostRuntime) {
     let mut buf = [0u8; INPUT];
     let mut page = [0u8; BLOCK_ROOM];
     let mut out = [0u8; OUTPUT];
-    run_all(&mut buf, &mut page, &mut out);
+    let _ = run_all(
+        &mut rt.stdin(),
+        &mut rt.stdout(),
+        &mut buf,
+        &mut page,
+        &mut out,
+    );
 }

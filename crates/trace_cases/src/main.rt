@@ -9,7 +9,9 @@ ghost use Rattle.std.specs.Prelude.{◌≡◌, true, ◌++◌, ◌+◌, ◌≤�
 ghost use Rattle.print.specs.Print.{Wrote};
 ghost use Rattle.trace.specs.Trace.{printed};
 
-use libc::STDOUT_FILENO;
+use std::fs;
+use std::io::Read;
+use std::rt::Files;
 use text::Span;
 
 // ---- sizes: what is longer counts as a difference
@@ -56,31 +58,46 @@ struct Got {
     n: usize,
 }
 
-// A file is whole where a read behind its last byte tells that nothing follows: not where it can't be opened or read, nor
-// where it is longer than the buffer.
-fn read_file(path: &[u8], buf: &mut [u8]) -> Got {
-    let fd = os::open_read(path);
-    if fd < 0 {
-        return Got { whole: false, n: 0 };
+// Reads until the buffer is full, the file ends or a read fails. Answers how many bytes stand in front of the buffer.
+fn read_full<F: Read>(file: &mut F, buf: &mut [u8]) -> usize
+    ensures { result ≤ length buf.new }
+{
+    let mut done = 0;
+    while done < buf.len() {
+        match file.read(&mut buf[done..]) {
+            Ok(0) | Err(_) => break,
+            Ok(n) => done += n,
+        }
     }
-    let n = io::read_full(fd, buf);
+    done
+}
+
+// A file is whole where a read behind its last byte tells that nothing follows: not where its name is no UTF-8 text, where it
+// can't be opened or read, or where it is longer than the buffer.
+fn read_file<R: Files>(rt: &R, path: &[u8], buf: &mut [u8]) -> Got {
+    let Ok(name) = str::from_utf8(path) else {
+        return Got { whole: false, n: 0 };
+    };
+    let Ok(mut file) = fs::open(rt, name) else {
+        return Got { whole: false, n: 0 };
+    };
+    let n = read_full(&mut file, buf);
     let mut behind = [0u8; 1];
-    let more = libc::read(fd, &mut behind);
-    libc::close(fd);
+    let more = file.read(&mut behind);
     Got {
-        whole: more == 0,
+        whole: matches!(more, Ok(0)),
         n: n,
     }
 }
 
 // A file of a trace, by the trace's name and what its own name ends in.
-fn read_named(name: &[u8], ending: &[u8], buf: &mut [u8]) -> Got {
+fn read_named<R: Files>(rt: &R, name: &[u8], ending: &[u8], buf: &mut [u8]) -> Got {
     if PATH_MOST < name.len() + ending.len() {
         return Got { whole: false, n: 0 };
     }
     let mut path = [0u8; PATH_MOST];
     let n = put_path(&mut path, name, ending);
-    read_file(&path[..n], buf)
+    read_file(rt, &path[..n], buf)
 }
 
 // ---- traces
@@ -90,18 +107,19 @@ fn passes(text: &[u8; FILE_MOST], n: usize, stored: &[u8], out: &mut [u8; OUTPUT
     ensures { (result ≡ true → printed (take n text.now) ≡ stored.now) × (printed (take n text.now) ≡ stored.now → result ≡ true) }
 {
     let s = trace::whole(slices::part(text, 0, n), out);
-    check::same(slices::part(out, 0, s.at), stored)
+    slices::part(out, 0, s.at) == stored
 }
 
 // Does the trace of a name print what is stored?
-fn agrees(
+fn agrees<R: Files>(
+    rt: &R,
     name: &[u8],
     text: &mut [u8; FILE_MOST],
     stored: &mut [u8; FILE_MOST],
     out: &mut [u8; OUTPUT],
 ) -> bool {
-    let t = read_named(name, b".trace", text);
-    let s = read_named(name, b".out", stored);
+    let t = read_named(rt, name, b".trace", text);
+    let s = read_named(rt, name, b".out", stored);
     if !t.whole {
         return false;
     }
@@ -111,14 +129,15 @@ fn agrees(
     passes(text, t.n, slices::part(stored, 0, s.n), out)
 }
 
-// Says that a trace differs, or the list itself.
-fn tell(name: &[u8]) {
-    io::write_all(STDOUT_FILENO, name);
-    io::write_all(STDOUT_FILENO, b" differs\n");
+// Says that a trace differs, or the list itself. A write that fails changes nothing but what is printed.
+fn tell<R: Print>(rt: &R, name: &[u8]) {
+    let _ = rt.write_all(name);
+    let _ = rt.write_all(b" differs\n");
 }
 
 // 1 for a trace that prints what is stored; 0, and its name is printed, for one that differs.
-fn judged(
+fn judged<R: Files + Print>(
+    rt: &R,
     name: &[u8],
     text: &mut [u8; FILE_MOST],
     stored: &mut [u8; FILE_MOST],
@@ -126,15 +145,16 @@ fn judged(
 ) -> u64
     ensures { result ≤ 1 }
 {
-    if agrees(name, text, stored, out) {
+    if agrees(rt, name, text, stored, out) {
         return 1;
     }
-    tell(name);
+    tell(rt, name);
     0
 }
 
 // How many traces of a list print what is stored.
-fn count(
+fn count<R: Files + Print>(
+    rt: &R,
     names: &[u8],
     text: &mut [u8; FILE_MOST],
     stored: &mut [u8; FILE_MOST],
@@ -145,7 +165,7 @@ fn count(
     loop {
         match text::line_at(names, at) {
             Span::Line(first, end) => {
-                good += judged(&names[first..end], text, stored, out);
+                good += judged(rt, &names[first..end], text, stored, out);
                 at = end + 1;
             }
             Span::End => {
@@ -155,27 +175,27 @@ fn count(
     }
 }
 
-fn run(
+fn run<R: Files + Print>(
+    rt: &R,
     names: &mut [u8; NAMES_MOST],
     text: &mut [u8; FILE_MOST],
     stored: &mut [u8; FILE_MOST],
     out: &mut [u8; OUTPUT],
 ) {
     let list = b"names";
-    let g = read_file(list, names);
+    let g = read_file(rt, list, names);
     if !g.whole {
-        tell(list);
+        tell(rt, list);
         return;
     }
-    let good = count(slices::part(names, 0, g.n), text, stored, out);
-    io::print_decimal(STDOUT_FILENO, good);
-    io::write_all(STDOUT_FILENO, b" traces print what is stored\n");
+    let good = count(rt, slices::part(names, 0, g.n), text, stored, out);
+    let _ = println!(rt; "{good} traces print what is stored");
 }
 
-fn main() {
+fn main(rt: HostRuntime) {
     let mut names = [0u8; NAMES_MOST];
     let mut text = [0u8; FILE_MOST];
     let mut stored = [0u8; FILE_MOST];
     let mut out = [0u8; OUTPUT];
-    run(&mut names, &mut text, &mut stored, &mut out);
+    run(&rt, &mut names, &mut text, &mut stored, &mut out);
 }
