@@ -110,13 +110,7 @@ pub fn test_compose(
     }
 }
 
-pub fn test_read(
-    numbers: &[u64],
-    mask: &[u8],
-    pdu: &[u8],
-    pn: &mut [u8],
-    user: &mut [u8],
-) -> Read {
+pub fn test_read(numbers: &[u64], mask: &[u8], pdu: &[u8], pn: &mut [u8], user: &mut [u8]) -> Read {
     let r = pdu::read(config_of(numbers, mask), pdu, pn, user);
     let a = r.answer;
     Read {

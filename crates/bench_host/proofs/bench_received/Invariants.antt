@@ -1,3 +1,4 @@
+-- What the loop of `bench_host::bench_received` keeps, and what falls in each turn. Assumes nothing.
 use Rattle.std.proofs.Common.{◌≤◌}
 use Rattle.bench_host.proofs.bench_received.Given as goal
 

@@ -1,3 +1,4 @@
+-- What the loop of `bench_host::bench_ticks` keeps, and what falls in each turn. Assumes nothing.
 use Rattle.std.proofs.Common.{◌≡◌, length}
 use Rattle.bench_host.proofs.bench_ticks.Given as goal
 

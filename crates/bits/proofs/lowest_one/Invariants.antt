@@ -1,3 +1,4 @@
+-- What the loop of `bits::lowest_one` keeps, and what falls in each turn. Assumes nothing.
 use mathlib.Core.Path.{◌≡◌}
 use Prim.Native.Nat.{ℕ, ◌-◌, ◌≤◌, ◌<◌}
 use lib.ListN.{length, get_or}

@@ -1,3 +1,4 @@
+-- What the loop of `bits::some_masked` keeps, and what falls in each turn. Assumes nothing.
 use mathlib.Core.Path.{◌≡◌}
 use mathlib.Core.Bool.{not}
 use Prim.Native.Nat.{◌-◌, ◌≤◌}

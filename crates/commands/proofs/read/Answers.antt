@@ -1,5 +1,4 @@
 -- `commands::read` meets its contract. Assumes nothing.
--- where the first field ends
 use mathlib.Core.Path.{◌≡◌, sym, ◌∙◌}
 use Prim.Native.Nat.{◌+◌, ◌-◌}
 use native.Mathlib.Nat.{zero-add}

@@ -11,7 +11,6 @@ use Rattle.fields.proofs.Fields.{fields_start, fields_at, fields_end}
 use Rattle.text.proofs.Filling.{filling_start, filling_one, filling_end}
 use Rattle.fields.proofs.tokens.Goals as goal
 
--- a field ends within the line
 pub loop-at-init : goal.loop-at-init
 unfolding tokens_of
 loop-at-init c =

@@ -1,3 +1,4 @@
+-- What the loop of `fields::tokens` keeps, and what falls in each turn. Assumes nothing.
 use mathlib.Core.Path.{◌≡◌}
 use mathlib.Core.List.{map}
 use Prim.Native.Nat.{◌-◌, ◌+◌, ◌≤◌}

@@ -1,3 +1,4 @@
+-- What the loop of `hex_bytes::hex_pairs` keeps, and what falls in each turn. Assumes nothing.
 use Rattle.std.proofs.Common.{◌≡◌, ◌-◌, ◌*◌, ◌≤◌, length, drop}
 use Rattle.hex_bytes.specs.Hex.{hex_pairs}
 use Rattle.text.proofs.Filling.{Filling}

@@ -1,3 +1,4 @@
+-- What the loop of `pn_limits::pair_under` keeps, and what falls in each turn. Assumes nothing.
 use mathlib.Core.Path.{◌≡◌}
 use mathlib.Core.Bool.{◌&&◌}
 use Prim.Native.Nat.{◌-◌, ◌≤◌}

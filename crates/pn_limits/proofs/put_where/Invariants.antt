@@ -1,3 +1,4 @@
+-- What the loop of `pn_limits::put_where` keeps, and what falls in each turn. Assumes nothing.
 use Prim.Native.Nat.{◌-◌}
 use lib.ListN.{length}
 use Rattle.timers.specs.Timers.{limit_at}

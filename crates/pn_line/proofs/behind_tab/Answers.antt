@@ -1,5 +1,4 @@
 -- `pn_line::behind_tab` meets its contract. Assumes nothing.
--- where the first field ends
 use mathlib.Core.Path.{◌≡◌, ◌∙◌}
 use Prim.Native.Nat.{◌+◌}
 use native.Mathlib.Nat.{zero-add}

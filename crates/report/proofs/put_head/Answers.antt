@@ -14,15 +14,15 @@ returns c =
 
 pub put_pair-b-requires : goal.put_pair-b-requires
 put_pair-b-requires c =
-    let number-done : c.put_number-a.result ≤ c.args.at + digits_most = omega (arith, length_number c.args.n) in
-    omega (arith, number-done)
+    let number_done : c.put_number-a.result ≤ c.args.at + digits_most = omega (arith, length_number c.args.n) in
+    omega (arith, number_done)
 
 pub put_pair-c-requires : goal.put_pair-c-requires
 put_pair-c-requires c =
-    let number-done : c.put_number-a.result ≤ c.args.at + digits_most = omega (arith, length_number c.args.n) in
-    omega (arith, number-done)
+    let number_done : c.put_number-a.result ≤ c.args.at + digits_most = omega (arith, length_number c.args.n) in
+    omega (arith, number_done)
 
 pub put-requires : goal.put-requires
 put-requires c =
-    let number-done : c.put_number-a.result ≤ c.args.at + digits_most = omega (arith, length_number c.args.n) in
-    omega (arith, number-done)
+    let number_done : c.put_number-a.result ≤ c.args.at + digits_most = omega (arith, length_number c.args.n) in
+    omega (arith, number_done)

@@ -22,18 +22,18 @@ put_notes-b-requires c =
 pub put-c-requires : goal.put-c-requires
 put-c-requires c =
     let head_done : c.put_head-a.result ≤ c.args.at + head_most = let a = c.args in omega (arith, length_head a.n a.answer a.state) in
-    let notes-done : c.put_notes-b.result ≤ c.put_head-a.result + notes_most = omega (arith, length_notes c.args.notes) in
-    omega (arith, head_done, notes-done)
+    let notes_done : c.put_notes-b.result ≤ c.put_head-a.result + notes_most = omega (arith, length_notes c.args.notes) in
+    omega (arith, head_done, notes_done)
 
 pub put_frame-d-requires : goal.put_frame-d-requires
 put_frame-d-requires c =
     let head_done : c.put_head-a.result ≤ c.args.at + head_most = let a = c.args in omega (arith, length_head a.n a.answer a.state) in
-    let notes-done : c.put_notes-b.result ≤ c.put_head-a.result + notes_most = omega (arith, length_notes c.args.notes) in
-    omega (arith, head_done, notes-done)
+    let notes_done : c.put_notes-b.result ≤ c.put_head-a.result + notes_most = omega (arith, length_notes c.args.notes) in
+    omega (arith, head_done, notes_done)
 
 pub put-requires : goal.put-requires
 put-requires c =
     let head_done : c.put_head-a.result ≤ c.args.at + head_most = let a = c.args in omega (arith, length_head a.n a.answer a.state) in
-    let notes-done : c.put_notes-b.result ≤ c.put_head-a.result + notes_most = omega (arith, length_notes c.args.notes) in
-    let frame-done : c.put_frame-d.result ≤ c.put_notes-b.result + 2 + 2 * length c.args.frame.now = omega (arith, length_frame c.args.frame.now) in
-    omega (arith, head_done, notes-done, frame-done)
+    let notes_done : c.put_notes-b.result ≤ c.put_head-a.result + notes_most = omega (arith, length_notes c.args.notes) in
+    let frame_done : c.put_frame-d.result ≤ c.put_notes-b.result + 2 + 2 * length c.args.frame.now = omega (arith, length_frame c.args.frame.now) in
+    omega (arith, head_done, notes_done, frame_done)

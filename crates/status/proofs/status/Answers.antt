@@ -16,9 +16,9 @@ pub returns-then-is_done : goal.returns-then-is_done
 unfolding status_of shown sound
 returns-then-is_done c =
     let answer : c.judge-a.result ≡ answer_of c.args.ch status =
-        c.judge-a.ensures
-        ∙ answered c.args.ch c.sound-ok.result c.is_not_here-elsewhere.result c.sound-ok.ensures
-        (rw (c.is_not_here-elsewhere.ensures, c.rule_of.ensures)) in
+    c.judge-a.ensures
+    ∙ answered c.args.ch c.sound-ok.result c.is_not_here-elsewhere.result c.sound-ok.ensures
+    (rw (c.is_not_here-elsewhere.ensures, c.rule_of.ensures)) in
     rw (
       c.state_number.ensures,
       c.lowest_of-lowest.ensures,
@@ -34,7 +34,7 @@ pub returns : goal.returns
 unfolding status_of sound
 returns c =
     let answer : c.judge-a.result ≡ answer_of c.args.ch status =
-        c.judge-a.ensures
-        ∙ answered c.args.ch c.sound-ok.result c.is_not_here-elsewhere.result c.sound-ok.ensures
-        (rw (c.is_not_here-elsewhere.ensures, c.rule_of.ensures)) in
+    c.judge-a.ensures
+    ∙ answered c.args.ch c.sound-ok.result c.is_not_here-elsewhere.result c.sound-ok.ensures
+    (rw (c.is_not_here-elsewhere.ensures, c.rule_of.ensures)) in
     rw (c.unshown.ensures, ← answer, ← c.is_done.ensures, c.if-is_done.false)

@@ -21,9 +21,9 @@ returns-then-sent c =
     let answer : c.judge-a.result ≡ answer_of ch tick = rw (c.judge-a.ensures, c.is_not_here.ensures, c.rule_of-rule.ensures, c.requires) in
     let done : is_done (answer_of ch tick) ≡ true = rw (← answer) (sym c.is_done.ensures ∙ c.if-is_done.true) in
     let sending : (a.taken && c.is_due.result) ≡ sends ch.own tick =
-        rw (c.is_due.ensures, c.traffic_by-x.ensures, c.setup_of-s.ensures, c.mode_by-after.ensures, c.rule_of-rule.ensures) in
+    rw (c.is_due.ensures, c.traffic_by-x.ensures, c.setup_of-s.ensures, c.mode_by-after.ensures, c.rule_of-rule.ensures) in
     let sent : c.send.new.frame ≡ framed a.c (traffic_moved ch.own tick) a.requests.now a.user.now a.frame.now =
-        rw (c.send.ensures, c.traffic_by-x.ensures, c.setup_of-s.ensures, c.mode_by-after.ensures, c.rule_of-rule.ensures) in
+    rw (c.send.ensures, c.traffic_by-x.ensures, c.setup_of-s.ensures, c.mode_by-after.ensures, c.rule_of-rule.ensures) in
     tick_sent ch a.taken a.frame.now done (sym sending ∙ c.if-sent.true)
     (rw (
       c.tick_effect.ensures,
@@ -50,7 +50,7 @@ returns-then-is_done c =
     let answer : c.judge-a.result ≡ answer_of ch tick = rw (c.judge-a.ensures, c.is_not_here.ensures, c.rule_of-rule.ensures, c.requires) in
     let done : is_done (answer_of ch tick) ≡ true = rw (← answer) (sym c.is_done.ensures ∙ c.if-is_done.true) in
     let sending : (a.taken && c.is_due.result) ≡ sends ch.own tick =
-        rw (c.is_due.ensures, c.traffic_by-x.ensures, c.setup_of-s.ensures, c.mode_by-after.ensures, c.rule_of-rule.ensures) in
+    rw (c.is_due.ensures, c.traffic_by-x.ensures, c.setup_of-s.ensures, c.mode_by-after.ensures, c.rule_of-rule.ensures) in
     tick_unsent ch a.taken a.frame.now done (sym sending ∙ c.if-sent.false)
     (rw (
       c.tick_effect-then-is_done.ensures,

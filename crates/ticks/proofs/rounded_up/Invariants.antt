@@ -1,3 +1,4 @@
+-- What the loop of `ticks::rounded_up` keeps, and what falls in each turn. Assumes nothing.
 use Prim.Native.Nat.{◌+◌, ◌-◌}
 use Rattle.ticks.proofs.LongDivision.{Dividing}
 use Rattle.ticks.proofs.rounded_up.Given as goal

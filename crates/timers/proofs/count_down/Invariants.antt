@@ -1,3 +1,4 @@
+-- What the loop of `timers::count_down` keeps, and what falls in each turn. Assumes nothing.
 use mathlib.Core.Path.{◌≡◌}
 use Prim.Native.Nat.{◌-◌, ◌≤◌}
 use lib.Dec.{eqb}

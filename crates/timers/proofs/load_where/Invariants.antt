@@ -1,3 +1,4 @@
+-- What the loop of `timers::load_where` keeps, and what falls in each turn. Assumes nothing.
 use mathlib.Core.Path.{◌≡◌}
 use mathlib.Core.Bool.{cond, ◌&&◌, xor}
 use Prim.Native.Nat.{◌-◌, ◌*◌, ◌≤◌, min}

@@ -1,6 +1,4 @@
 -- `trace_line::line` meets its contract. Assumes nothing.
-use native.Mathlib.Omega.{arith}
-use borrow.Author.Rules.{rules}
 use Rattle.print.proofs.Wrote.{wrote_none}
 use Rattle.trace_line.specs.TraceLine.{line_in}
 use Rattle.trace_line.proofs.Steps.{gives_in}

@@ -1,3 +1,4 @@
+-- What the loop of `vectors::vectors_differ` keeps, and what falls in each turn. Assumes nothing.
 use mathlib.Core.Path.{◌≡◌}
 use mathlib.Core.Bool.{xor}
 use Prim.Native.Nat.{◌-◌, ◌≤◌}

@@ -1,3 +1,4 @@
+-- What the loop of `test_host::exchange::load_timers` keeps, and what falls in each turn. Assumes nothing.
 use Prim.Native.Nat.{◌-◌, ◌≤◌}
 use Rattle.config.specs.Ranges.{pnc_most}
 use Rattle.test_host.proofs.exchange.load_timers.Given as goal

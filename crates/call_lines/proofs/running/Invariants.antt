@@ -1,0 +1,28 @@
+use mathlib.Core.Path.{◌≡◌, refl, sym, ◌∙◌}
+use Prim.Native.Nat.{◌-◌, ◌+◌, ◌*◌, ◌≤◌, ◌<◌}
+use native.Mathlib.Omega.{arith}
+use borrow.Author.Rules.{rules}
+use lib.ListN.{length, take, drop, replicate}
+use Rattle.config.specs.Ranges.{pnc_most}
+use Rattle.print.proofs.Wrote.{wrote_length}
+use Rattle.soundness.specs.Sound.{sound_of}
+use Rattle.soundness.proofs.Alike.{sound_alike}
+use Rattle.text.specs.Lines.{line_feed, lines_of, until}
+use Rattle.text.proofs.Lines.{lines_at, lines_none, span_line, span_end}
+use Rattle.replay.specs.Replay.{run_in}
+use Rattle.trace_line.specs.TraceLine.{line_in, room}
+use Rattle.trace_line.proofs.Room.{line_le}
+use Rattle.call_lines.proofs.Going.{Going, going_start, going_on, going_end, gives_running}
+use Rattle.call_lines.proofs.running.Given as goal
+
+abbrev pub invariant-loop-first : goal.invariant-loop-first
+invariant-loop-first l =
+    Going (run_in l.initial.n l.c l.t l.initial.now.mode l.initial.now.traffic l.initial.user l.initial.requests l.initial.era l.initial.eira) (lines_of (drop l.from l.text)) l.initial.out l.begin l.out l.now.at
+    (run_in l.n l.c l.t l.now.mode l.now.traffic l.user l.requests l.era l.eira)
+    (lines_of (drop l.at l.text))
+    × (l.now.at + room * (length l.text - l.at) ≤ length l.initial.out)
+    × (length l.out ≡ length l.initial.out)
+
+abbrev pub decreases-loop-first : goal.decreases-loop-first
+decreases-loop-first l =
+    length l.text + 1 - l.at
