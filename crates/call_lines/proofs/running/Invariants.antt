@@ -1,18 +1,10 @@
-use mathlib.Core.Path.{◌≡◌, refl, sym, ◌∙◌}
-use Prim.Native.Nat.{◌-◌, ◌+◌, ◌*◌, ◌≤◌, ◌<◌}
-use native.Mathlib.Omega.{arith}
-use borrow.Author.Rules.{rules}
-use lib.ListN.{length, take, drop, replicate}
-use Rattle.config.specs.Ranges.{pnc_most}
-use Rattle.print.proofs.Wrote.{wrote_length}
-use Rattle.soundness.specs.Sound.{sound_of}
-use Rattle.soundness.proofs.Alike.{sound_alike}
-use Rattle.text.specs.Lines.{line_feed, lines_of, until}
-use Rattle.text.proofs.Lines.{lines_at, lines_none, span_line, span_end}
+use mathlib.Core.Path.{◌≡◌}
+use Prim.Native.Nat.{◌-◌, ◌+◌, ◌*◌, ◌≤◌}
+use lib.ListN.{length, drop}
+use Rattle.text.specs.Lines.{lines_of}
 use Rattle.replay.specs.Replay.{run_in}
-use Rattle.trace_line.specs.TraceLine.{line_in, room}
-use Rattle.trace_line.proofs.Room.{line_le}
-use Rattle.call_lines.proofs.Going.{Going, going_start, going_on, going_end, gives_running}
+use Rattle.trace_line.specs.TraceLine.{room}
+use Rattle.call_lines.proofs.Going.{Going}
 use Rattle.call_lines.proofs.running.Given as goal
 
 abbrev pub invariant-loop-first : goal.invariant-loop-first
