@@ -68,7 +68,7 @@ pub fn line_count(s: &[u8]) -> usize
 // ---- the reader
 
 // The lent text and the place where its next line begins.
-#[derive(Drop)]
+#[derive(Clone, Copy)]
 pub struct Reader<'a> {
     pub text: &'a [u8],
     pub at: usize,

@@ -81,7 +81,7 @@ const KEPT_MOST: usize = LINE_MOST + 1;
 
 // A trace between two blocks: the run up to the last finished line, and what is carried along of the unfinished one, which are
 // the first `kept` bytes of `line`.
-#[derive(Drop)]
+#[derive(Clone, Copy)]
 pub struct Trace {
     pub run: Run,
     pub line: [u8; KEPT_MOST],
@@ -120,7 +120,7 @@ const TEXT_MOST: usize = KEPT_MOST + BLOCK_MOST;
 pub const BLOCK_ROOM: usize = trace_line::ROOM * TEXT_MOST;
 
 // The answer to a block, the trace behind it, and how many bytes it printed.
-#[derive(Drop)]
+#[derive(Clone, Copy)]
 pub struct BlockReply {
     pub answer: Answer,
     pub trace: Trace,

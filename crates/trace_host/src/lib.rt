@@ -11,7 +11,7 @@ use runs::Run;
 use trace::{BLOCK_ROOM, Trace};
 
 #[repr(C)]
-#[derive(Drop)]
+#[derive(Clone, Copy)]
 pub struct InBlocks {
     pub printed: u64,
     pub lines: u64,
@@ -21,7 +21,7 @@ pub struct InBlocks {
 }
 
 #[repr(C)]
-#[derive(Drop)]
+#[derive(Clone, Copy)]
 pub struct AfterBlock {
     pub answer: u64,
     pub at: u64,
@@ -30,7 +30,7 @@ pub struct AfterBlock {
 }
 
 // A trace between two blocks, and how many bytes it has printed.
-#[derive(Drop)]
+#[derive(Clone, Copy)]
 struct Went {
     trace: Trace,
     printed: usize,

@@ -1,0 +1,5 @@
+-- `trace::whole` meets its contract. Assumes nothing.
+use Rattle.trace.proofs.whole.Goals as goal
+
+pub returns : goal.returns
+returns c = rw c.first_run.ensures at c.whole_from.ensures
