@@ -1,11 +1,13 @@
 # Reads the log of a check of an edited crate, and says what became of the edit: one word, a tab, and why.
 #
 #   fact      refused, since a fact no longer holds
-#   unfit     refused, since the proof no longer fits the code: a need that is gone, a field that is gone, nothing
+#   unfit     refused, since the proof no longer fits the code: a goal that is gone, a field that is gone, nothing
 #             to rewrite
 #   invalid   refused, since the edited text is no valid Rattle or has no meaning
 #   proved    not refused
 #   unknown   the log does not say
+#
+# A goal of the code that is false for some values is a fact that fails, whatever the proof's first error is.
 #
 # Run it as LC_ALL=C awk -f tests/refusal.awk LOG.
 
@@ -27,8 +29,7 @@ function is_follow_up(line) { return line ~ /was not admitted/ }
 function judge_error(    place, said, short) {
     place = head; sub(/: error.*/, "", place)
     said = head; sub(/^.*: error(\[[^]]*\])?: /, "", said)
-    # the crate that was edited is a copy under target/must-fail/CRATE/LABEL/ or target/mutants/WORKER/CRATE/
-    sub(/^.*\/target\/(must-fail|mutants)\/[^\/]*\/[^\/]*\//, "", place)
+    sub(/^\.\//, "", place)
 
     if (head ~ /: error\[/)
         return verdict("invalid", "the edited text is not valid Rattle (" place ": " said ")")
@@ -37,7 +38,7 @@ function judge_error(    place, said, short) {
     if (place ~ /^specs\// && said !~ /the two types/)
         return verdict("invalid", "the edited definition has no meaning (" place ": " said ")")
 
-    if (said ~ /has no `(Need|After|In|Then|Else|Joined|InvT|MeasureT)-/ || said ~ /that can be named from here/)
+    if (said ~ /has no `/)
         return verdict("unfit", "the proof names what the edited code no longer has (" place ": " said ")")
     # a long name stands on the first line alone, and what is said of it on the second
     short = head " " second
@@ -46,9 +47,7 @@ function judge_error(    place, said, short) {
     if (said ~ /this pattern needs a function \(or path\) type to bind/ || said ~ /binders, but its type has room for only/)
         return verdict("unfit", "the proof takes more variables than the edited code has (" place ": " said ")")
     if (said ~ /a tuple is checked against/ || said ~ /does not read the goal/)
-        return verdict("unfit", "the proof answers another need than the edited code has (" place ": " said ")")
-    if (whole ~ /expected type `([^ `]*\.)?[Tt]ie\.Need-/ || whole ~ /has type `([^ `]*\.)?[Tt]ie\.Need-/)
-        return verdict("unfit", "the proof answers another need than the edited code has (" place ": " said ")")
+        return verdict("unfit", "the proof answers another goal than the edited code has (" place ": " said ")")
     if (said ~ /is not in scope/ && said !~ /is not in scope here/)
         return verdict("unfit", "a name is not known (" place ": " said ")")
     if (said ~ /no occurrence of the path/ || said ~ /`rw`: no part of the goal/)
@@ -60,6 +59,7 @@ function judge_error(    place, said, short) {
 
 /^logic=proved/ { accepted = 1 }
 /^logic=not-proved/ { refused = 1 }
+/^note: .*: it is not proved that .*; the facts known there allow values/ && refuted == "" { refuted = $0 }
 # the first error decides
 class != "" { next }
 # An error is one line and the indented lines behind it.
@@ -71,11 +71,12 @@ head != "" { if (whole == head) second = $0; whole = whole "\n" $0; next }
     next
 }
 /^note: .*: it is not proved that/ && note == "" { note = $0 }
-/^fn .*: no proof: expected/ && !/does not close/ && unmade == "" { unmade = $0 }
+/^fn .*: no proof: expected/ && !/did not prove/ && unmade == "" { unmade = $0 }
 /^fn .*does not cover/ && unmade == "" { unmade = $0 }
 
 END {
     if (class == "" && head != "") judge_error()
+    if (class == "unfit" && refused && refuted != "") { sub(/^note: /, "", refuted); verdict("fact", refuted) }
     if (class == "fact" && !refused) verdict("unknown", "the log has no verdict: the run broke off")
     if (class == "") {
         if (accepted) verdict("proved", "the edit was not refused")

@@ -103,10 +103,14 @@ def code_of(text):
     tokens = [Token(m.lastgroup, m.group(), m.start()) for m in TOKEN.finditer(text) if m.lastgroup != "space"]
     code, kept, i = Code(tokens), [], 0
     while i < len(code):
-        if code[i].text in ("requires", "ensures") and code.text(i + 1) == "{":
-            i = code.partner[i + 1] + 1
+        # a clause may have a star and a name
+        clause = next((k for k in range(i + 1, i + 4) if code.text(k) == "{"), None)
+        if code[i].text in ("requires", "ensures") and clause:
+            i = code.partner[clause] + 1
         elif code[i].text == "ghost":
-            i = code.find(i, ";") + 1
+            # an item ends with a semicolon, a field of a struct with a comma or with the struct
+            end = code.partner.get(code.around[i]) if code.around[i] is not None else len(code)
+            i = min(code.find(i, ";", ","), end - 1) + 1
         else:
             kept.append(code[i])
             i += 1
@@ -165,10 +169,14 @@ class Sources:
                 self.constants.append((item.path, item))
                 i = end
             elif word == "impl":
-                self.read_items(file, code, i + 3, code.partner[i + 2], path + [name])
-                i = code.partner[i + 2]
+                # the type stands before the block, behind the trait where there is one
+                block = code.find(i, "{")
+                self.read_items(file, code, block + 1, code.partner[block], path + [code.text(block - 1)])
+                i = code.partner[block]
             elif word in ("struct", "enum"):
                 i = self.read_type(code, i, path + [name])
+            elif word == "mod" and code.text(i + 2) == "{":
+                i = code.partner[i + 2]  # tests, which are no part of the product
             elif word in ("use", "mod", "type"):
                 i = code.find(i, ";")
             else:

@@ -1,4 +1,4 @@
-//! Links the three archives that `rt staticlib` writes. `CANNM_LIBRARIES` names the folder they stand in.
+//! Links the three archives that `tools/static_library` makes. `CANNM_LIBRARIES` names the folder they stand in.
 
 use std::path::PathBuf;
 
