@@ -8,7 +8,7 @@ use lib.Dec.{eqb}
 use borrow.Author.Tests.{eqb-true}
 use Rattle.channel.specs.declared.state.Channel.{Channel}
 use Rattle.answers.specs.declared.Answer.TheVariants.{Done, Rule}
-use Rattle.channel.specs.Channel.{fresh, initialised, started, zero}
+use Rattle.channel.specs.Channel.{replied, fresh, initialised, started, zero}
 use Rattle.command_names.specs.declared.Asked.{Asked}
 use Rattle.command_names.specs.declared.Asked.TheVariants.{Unreadable, Call}
 use Rattle.config.specs.declared.Config.{Config}
@@ -67,7 +67,7 @@ later_channel run l = by_asked (reading_of l).asked (reading_of l).bytes
 
 after_append : (ch : Channel) (a b : List calls.Call) → sleep.after (sleep.after ch a) b ≡ sleep.after ch (a ++ b)
 after_append ch [] b = refl
-after_append ch (x ∷ a) b = after_append _ a b
+after_append ch (x ∷ a) b = after_append (replied ch x).channel a b
 
 step_running : (run : Run) (l : List ℕ) → run.phase ≡ Running → step_of run l ≡ (later_line run l).run
 unfolding line_in
