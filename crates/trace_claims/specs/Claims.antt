@@ -9,7 +9,7 @@ use Rattle.decision.specs.Decision as calls
 use Rattle.config_line.specs.ConfigLine.{read_config}
 use Rattle.pn_line.specs.PnLine.{is_partial, read_partial}
 use Rattle.sleep.specs.Sleep.{ChannelSleeps, reached}
-use Rattle.blocks.specs.Blocks.{cut, finished_lines, kept_of, lines_most}
+use Rattle.blocks.specs.Blocks.{cut, finished_lines, lines_most}
 use Rattle.blocks.specs.Runs.{after}
 use Rattle.text.specs.Lines.{lines_of}
 use Rattle.dispatch.specs.Calls.{call_for}

@@ -37,8 +37,8 @@ later_line_in_place-now-requires c =
     let a = c.args.run.channel.own in
     let w = c.sound_by-ok.ensures in
     let judged : c.sound_by-ok.result ≡ sound_of a.config a.ticks b.now.mode b.now.traffic b.era b.eira =
-        rw (w.value, c.configured-passes.ensures, c.setup_of-setup.ensures, c.put_limits.ensures)
-        (sound_alike a.config a.ticks b.now.mode b.now.traffic (replicate pnc_most 0) b.era b.eira (omega (arith, w.era_len.0)) (omega (arith, w.era_len.1))) in
+    rw (w.value, c.configured-passes.ensures, c.setup_of-setup.ensures, c.put_limits.ensures)
+    (sound_alike a.config a.ticks b.now.mode b.now.traffic (replicate pnc_most 0) b.era b.eira (omega (arith, w.era_len.0)) (omega (arith, w.era_len.1))) in
     (judged, omega (arith, c.requires.1, f.0, b.invariant.1, b.invariant.2))
 
 pub overflow_add-at : goal.overflow_add-at

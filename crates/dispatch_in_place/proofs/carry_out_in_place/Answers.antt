@@ -1,6 +1,5 @@
 -- `dispatch_in_place::carry_out_in_place` meets its contract. Assumes nothing.
 use mathlib.Core.Path.{refl}
-use borrow.Author.Rules.{rules}
 use Rattle.channel.specs.Channel.{ticked_by}
 use Rattle.dispatch.specs.Calls.{carried_out_by}
 use Rattle.dispatch.proofs.Unframed.{unframed}
