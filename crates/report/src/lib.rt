@@ -2,7 +2,7 @@
 //
 // Promises: the text of specs/Report in the lent buffer from a place on, and no other byte changed. Leaves to others:
 // the text of the notes (`notes_text`), what a line's answer is (`replay`), and that the buffer has room. The caller counts
-// the room once for all bytes of a line (`length-line`), so that no writer tests it byte by byte.
+// the room once for all bytes of a line (`length_line`), so that no writer tests it byte by byte.
 #![tactic(auto)]
 
 ghost use Rattle.std.specs.Prelude.{◌≡◌, ◌+◌, ◌*◌, ◌≤◌, length};
