@@ -7,9 +7,13 @@
 #   proved    not refused
 #   unknown   the log does not say
 #
-# A goal of the code that is false for some values is a fact that fails, whatever the proof's first error is.
+# Two things are facts that fail whatever the proof's first error is: a goal of the code that is false for some values, and a goal
+# that no proof file answers, so that the check proved it by itself before the edit and does not now. The second does not hold
+# where what a loop keeps was refused too, or where an answer lost its goal and the two are of one kind: the edit may
+# have given that goal another name.
 #
-# Run it as LC_ALL=C awk -f tests/refusal.awk LOG.
+# Run it as LC_ALL=C awk -f tests/refusal.awk LOG, or, for the second of these, with -v crate=NAME and in -v answered=..
+# the goals that the crate's proof files answer, each between blanks.
 
 function verdict(word, why) {
     if (length(why) > 500) {
@@ -25,6 +29,11 @@ function verdict(word, why) {
 # The prover says of each definition that stands on a refused one that it was not admitted: what matters
 # is the error that came before.
 function is_follow_up(line) { return line ~ /was not admitted/ }
+
+function kind(goal) {
+    sub(/[-`].*/, "", goal)
+    return goal
+}
 
 function judge_error(    place, said, short) {
     place = head; sub(/: error.*/, "", place)
@@ -52,6 +61,8 @@ function judge_error(    place, said, short) {
         return verdict("unfit", "a name is not known (" place ": " said ")")
     if (said ~ /no occurrence of the path/ || said ~ /`rw`: no part of the goal/)
         return verdict("unfit", "a step of the proof finds nothing to rewrite in the edited code (" place ": " said ")")
+    if (said ~ /expected type `?goal\./)
+        return verdict("unfit", "the proof answers another goal than the edited code has (" place ": " said ")")
     if (said ~ /is in a cycle of calls/)
         return verdict("unfit", "the edited code calls in a cycle, and the proof is for code that does not (" place ": " said ")")
     verdict("fact", place ": " said)
@@ -60,6 +71,13 @@ function judge_error(    place, said, short) {
 /^logic=proved/ { accepted = 1 }
 /^logic=not-proved/ { refused = 1 }
 /^note: .*: it is not proved that .*; the facts known there allow values/ && refuted == "" { refuted = $0 }
+/Invariants\.antt:.*: error/ { kept = 1 }
+# The kind of a goal is what its name begins with.
+/: error: .*has no `/ { lost[kind(substr($0, index($0, "has no `") + 8))] = 1 }
+/^note: .*: it is not proved that .*\(`[^`]*`\)/ && crate != "" {
+    goal = $0; sub(/^.*: it is not proved that .*\(`/, "", goal); sub(/`\).*/, "", goal)
+    if (index(answered, " " goal " ") == 0) { own_goal[++owns] = goal; own_note[owns] = $0 }
+}
 # the first error decides
 class != "" { next }
 # An error is one line and the indented lines behind it.
@@ -77,6 +95,8 @@ head != "" { if (whole == head) second = $0; whole = whole "\n" $0; next }
 END {
     if (class == "" && head != "") judge_error()
     if (class == "unfit" && refused && refuted != "") { sub(/^note: /, "", refuted); verdict("fact", refuted) }
+    for (i = 1; i <= owns && class == "unfit" && refused && !kept; i++)
+        if (!(kind(own_goal[i]) in lost)) { sub(/^note: /, "", own_note[i]); verdict("fact", own_note[i]) }
     if (class == "fact" && !refused) verdict("unknown", "the log has no verdict: the run broke off")
     if (class == "") {
         if (accepted) verdict("proved", "the edit was not refused")
