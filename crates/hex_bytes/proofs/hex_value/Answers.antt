@@ -1,1 +1,0 @@
--- `hex_bytes::hex_value` meets its contract. Assumes nothing.
