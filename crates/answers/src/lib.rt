@@ -1,20 +1,65 @@
-// What a call can return: the answers with their numbers.
+// What a call can return: done, or a refusal, each with its number.
 //
 // Promises: one number for each answer, and the number of the broken rule where there is one. Leaves to others:
 // when an answer is given.
 #![tactic(auto)]
 
-ghost use Rattle.std.specs.Prelude.{◌≡◌};
-ghost use Rattle.answers.specs.Answers.{number_of, rule_of};
+ghost use Rattle.std.specs.Prelude.{◌≡◌, cond};
+ghost use Rattle.answers.specs.Answers.{answer_to, number_of, number_of_rule, rule_of, ruled};
+ghost use Rattle.answers.specs.declared.Refusal.TheVariants.{Rule};
 
-#[derive(Clone, Copy)]
-pub enum Answer {
-    // None of the others: the call was carried out.
-    Done,
+// The rules of a configuration, in the order in which they are judged.
+#[derive(Clone, Copy, PartialEq, Eq)]
+pub enum BrokenRule {
+    // The period of the main function is within its bounds.
+    Period,
+    // Every time, the number of fast frames and the node id are within their bounds.
+    Bounds,
+    // The offset is below the cycle.
+    Offset,
+    // Fast frames have a cycle of at least one tick.
+    FastCycle,
+    // The timeout is above the cycle.
+    Timeout,
+    // The length of the PDU is within its bounds.
+    PduLength,
+    // The header fields have places of their own in the PDU.
+    Header,
+    // The PN range, the mask and the reset time fit the rest.
+    PartialNetwork,
+}
+
+impl BrokenRule {
+    // Broken, unless the test of the rule holds.
+    pub fn unless(self, kept: bool) -> Result<(), BrokenRule>
+        ensures { result ≡ cond kept (Ok tt) (Err self) }
+    {
+        if kept { Ok(()) } else { Err(self) }
+    }
+
+    // The number of a rule.
+    pub fn number(self) -> u8
+        ensures { result ≡ number_of_rule self }
+    {
+        match self {
+            BrokenRule::Period => 1,
+            BrokenRule::Bounds => 2,
+            BrokenRule::Offset => 3,
+            BrokenRule::FastCycle => 4,
+            BrokenRule::Timeout => 5,
+            BrokenRule::PduLength => 6,
+            BrokenRule::Header => 7,
+            BrokenRule::PartialNetwork => 8,
+        }
+    }
+}
+
+#[derive(Clone, Copy, PartialEq, Eq)]
+pub enum Refusal {
     // The state handed in is not sound.
     Unsound,
-    // A configuration rule is broken: the number of the first.
-    Rule(u8),
+    // A configuration rule is broken: the first.
+    Rule(BrokenRule),
     // The call is not for the present state.
     State,
     // The call is not for a passive channel.
@@ -26,18 +71,47 @@ pub enum Answer {
     PnOff,
 }
 
+impl From<BrokenRule> for Refusal {
+    ghost from_gives = { λ rule refusal. refusal ≡ Rule rule };
+
+    fn from(rule: BrokenRule) -> Refusal {
+        Refusal::Rule(rule)
+    }
+}
+
+// `Ok` where the call was carried out.
+pub type Answer = Result<(), Refusal>;
+
+// The answer to what gives a value, or is refused.
+pub fn answer_to<T: Drop>(r: Result<T, Refusal>) -> Answer
+    ensures { result ≡ answer_to r }
+{
+    match r {
+        Ok(_) => Ok(()),
+        Err(refusal) => Err(refusal),
+    }
+}
+
+// The answer to what gives a value, or breaks a rule.
+pub fn ruled<T: Drop>(r: Result<T, BrokenRule>) -> Answer
+    ensures { result ≡ ruled r }
+{
+    r?;
+    Ok(())
+}
+
 // The number of an answer.
 pub fn number(a: Answer) -> u8
     ensures { result ≡ number_of a }
 {
     match a {
-        Answer::Done => 0,
-        Answer::Unsound => 1,
-        Answer::Rule(_) => 2,
-        Answer::State => 3,
-        Answer::Passive => 4,
-        Answer::Length => 5,
-        Answer::PnOff => 6,
+        Ok(()) => 0,
+        Err(Refusal::Unsound) => 1,
+        Err(Refusal::Rule(_)) => 2,
+        Err(Refusal::State) => 3,
+        Err(Refusal::Passive) => 4,
+        Err(Refusal::Length) => 5,
+        Err(Refusal::PnOff) => 6,
     }
 }
 
@@ -46,12 +120,7 @@ pub fn rule(a: Answer) -> u8
     ensures { result ≡ rule_of a }
 {
     match a {
-        Answer::Done => 0,
-        Answer::Unsound => 0,
-        Answer::Rule(k) => k,
-        Answer::State => 0,
-        Answer::Passive => 0,
-        Answer::Length => 0,
-        Answer::PnOff => 0,
+        Err(Refusal::Rule(rule)) => rule.number(),
+        _ => 0,
     }
 }

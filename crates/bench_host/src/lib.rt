@@ -19,14 +19,11 @@ pub struct Sums {
 }
 
 fn digit(set: bool) -> u32 {
-    if set { 1 } else { 0 }
+    u32::from(set)
 }
 
-fn raised(note: Note) -> u32 {
-    match note {
-        Note::Nothing => 0,
-        _ => 1,
-    }
+fn raised(note: Option<Note>) -> u32 {
+    digit(note.is_some())
 }
 
 fn sum(a: u32, b: u32) -> u32 {
@@ -59,13 +56,11 @@ fn no_sums() -> Sums {
 pub extern "C" fn bench_ticks(words: &mut [u64], count: u32, frame: &mut [u8]) -> Sums {
     let mut ch = test_host::exchange::channel_in(words);
     let mut sums = no_sums();
-    let mut left = count;
-    while 0 < left {
+    for _ in 0..count {
         let r = tick::main_function(ch, true, frame);
         let a = r.answer;
         sums = with(sums, a, r.notes, r.sent);
         ch = r.channel;
-        left = left - 1;
     }
     test_host::exchange::put_channel(words, ch);
     sums
@@ -76,13 +71,11 @@ pub extern "C" fn bench_ticks(words: &mut [u64], count: u32, frame: &mut [u8]) -
 pub extern "C" fn bench_received(words: &mut [u64], count: u32, pdu: &[u8]) -> Sums {
     let mut ch = test_host::exchange::channel_in(words);
     let mut sums = no_sums();
-    let mut left = count;
-    while 0 < left {
+    for _ in 0..count {
         let r = reception::rx_indication(ch, pdu);
         let a = r.answer;
         sums = with(sums, a, r.notes, r.sent);
         ch = r.channel;
-        left = left - 1;
     }
     test_host::exchange::put_channel(words, ch);
     sums

@@ -11,12 +11,13 @@ use lib.ListN.{length, get_or, take, length-take, get_or-eq_default}
 use lib.Seq.{get_or-take}
 use lib.Arith.{lt-one}
 use lib.Pow.{pow_mono}
-use lib.Bits.{bit_and, and_shr, and_step, and_zero_l}
+use lib.Bits.{bit_and, and_shr, and_step, and_zero_l, and_zero_r}
 use lib.Count.{count_trailing_zeros}
 use borrow.Author.Tests.{leb-true, leb-false, ltb-true, ltb-false, eqb-true, eq-eqb, ne_eqb}
-use Rattle.bits.specs.declared.Lowest.TheVariants.{At, Nowhere}
+use Rattle.std.specs.Prelude.{None, Some}
 use Rattle.bits.specs.Bits.{bit_of, bit_at, some_masked, lowest_in}
-use Rattle.bits.proofs.Lists.{any_at, any_some}
+use Rattle.std.specs.List.{list_any, zip}
+use Rattle.bits.proofs.Lists.{any_at, any_front, any_none, any_some}
 
 -- a byte has no bit 8 or above
 pub bit_above : (b k : ℕ) → b < 2 ^ 8 → 8 ≤ k → bit_of b k ≡ false
@@ -38,7 +39,7 @@ bit_past m k h = rw (get_or-eq_default {A = ℕ} m 0 h, zero-div)
 pub both_past : (m n : List ℕ) (k : ℕ) → min (length m) (length n) ≤ k / 8 → (bit_at m k && bit_at n k) ≡ false
 both_past m n k h = ⊎_elim (λ l. rw (bit_past m k l)) (λ l. rw (bit_past n k l) (and-false (bit_at m k))) (min_cases (length m) (length n) (k / 8) h)
 
--- byte-take, by the answer of its test
+-- `byte_take`, by the answer of its test
 take_by : (n : ℕ) (m : List ℕ) (j : ℕ) (b : Bool) → ltb j n ≡ b → get_or (take n m) j 0 ≡ cond b (get_or m j 0) 0
 take_by n m j true e = get_or-take n m j 0 (ltb-true j n e)
 take_by n m j false e = get_or-eq_default {A = ℕ} (take n m) 0 (rw length-take (omega (arith, ltb-false j n e)))
@@ -57,15 +58,15 @@ bit_take n m k = rw (byte_take n m (k / 8)) (bit_or_none (ltb (k / 8) n) (get_or
 
 -- the lowest one stands in the first byte that is not 0
 pub lowest_found : (bytes : List ℕ) (i : ℕ) → i < length bytes → ((k : ℕ) → k < i → get_or bytes k 0 ≡ 0) → (get_or bytes i 0 ≡ 0 → ⊥)
-    → lowest_in bytes ≡ At (8 * i + count_trailing_zeros 8 (get_or bytes i 0))
+    → lowest_in bytes ≡ Some (8 * i + count_trailing_zeros 8 (get_or bytes i 0))
 unfolding lowest_in
 lowest_found [] i h z n = absurd (not-suc-le-zero h)
-lowest_found (b ∷ bs) zero h z n = rw (ne_eqb b 0 n) (ap At (omega arith))
+lowest_found (b ∷ bs) zero h z n = rw (ne_eqb b 0 n) (ap Some (omega arith))
 lowest_found (b ∷ bs) (suc i) h z n =
-    rw (eq-eqb b 0 (z 0 (omega arith)), lowest_found bs i (le_of_suc-le-suc h) (λ k l. z (suc k) (suc-le-suc l)) n) (ap At (omega arith))
+    rw (eq-eqb b 0 (z 0 (omega arith)), lowest_found bs i (le_of_suc-le-suc h) (λ k l. z (suc k) (suc-le-suc l)) n) (ap Some (omega arith))
 
 -- where every byte is 0 there is no one
-pub lowest_none : (bytes : List ℕ) → ((k : ℕ) → k < length bytes → get_or bytes k 0 ≡ 0) → lowest_in bytes ≡ Nowhere
+pub lowest_none : (bytes : List ℕ) → ((k : ℕ) → k < length bytes → get_or bytes k 0 ≡ 0) → lowest_in bytes ≡ None
 unfolding lowest_in
 lowest_none [] z = refl
 lowest_none (b ∷ bs) z = rw (eq-eqb b 0 (z 0 (omega arith)), lowest_none bs (λ k l. z (suc k) (suc-le-suc l)))
@@ -86,6 +87,14 @@ masked_of_bit bytes mask k p q =
     any_at _ (length bytes) (k / 8)
     (lt_of_not-le (λ h. false≢true (sym (bit_past bytes k h) ∙ p)))
     (rw (ne_eqb _ 0 (and_of_bits (get_or bytes (k / 8) 0) (get_or mask (k / 8) 0) (k % 8) p q)))
+
+-- the test of each pair of bytes
+pub masked_pairs : (bytes mask : List ℕ) → list_any (λ (p : ℕ × ℕ). not (eqb (bit_and p.0 p.1) 0)) (zip bytes mask) ≡ some_masked bytes mask
+unfolding some_masked
+masked_pairs [] mask = refl
+masked_pairs (b ∷ bs) [] = sym (any_none _ (suc (length bs)) (λ k. rw (and_zero_r (get_or (b ∷ bs) k 0))))
+masked_pairs (b ∷ bs) (m ∷ ms) =
+    rw (masked_pairs bs ms) (sym (any_front (λ k. not (eqb (bit_and (get_or (b ∷ bs) k 0) (get_or (m ∷ ms) k 0)) 0)) (length bs)))
 
 -- two digits are both 1, or the smaller is 0
 both_ones : (x y : ℕ) → x < 2 → y < 2 → ((x ≡ 1) × (y ≡ 1)) ⊎ (min x y ≡ 0)

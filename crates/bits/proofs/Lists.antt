@@ -1,6 +1,6 @@
 -- Laws of lists changed place by place, and of tests and sums over the places of a range, for any length. Assumes nothing.
 use mathlib.Core.Path.{◌≡◌, refl, ap, sym, ◌∙◌}
-use mathlib.Core.Bool.{Bool, true, false, ◌&&◌, ◌||◌, and-eq-true_iff, or-true, or-false, false≢true}
+use mathlib.Core.Bool.{Bool, true, false, ◌&&◌, ◌||◌, and-eq-true_iff, or-true, or-false, or_assoc, false≢true}
 use mathlib.Core.List.{List, [], ◌∷◌}
 use mathlib.Core.Logic.{⊎_elim}
 use Prim.Native.Nat.{ℕ, zero, suc, ◌+◌, ◌<◌, ◌≤◌, zero-le}
@@ -8,6 +8,8 @@ use native.Mathlib.Nat.{eq-or-lt_of_le, le_antisymm, add-zero, zero-add, add-suc
 use native.Mathlib.Numerals.{add-one}
 use native.Mathlib.Omega.{arith}
 use lib.ListN.{length, get_or, set, length-set}
+use Rattle.std.specs.List.{sum_by}
+use Rattle.std.proofs.lemmas.List.Sums.{sum_by-cons}
 use Rattle.choice.proofs.Tests.{or_cases}
 use Rattle.bits.specs.Lists.{map_from, all_below, any_below, sum_below}
 
@@ -167,12 +169,28 @@ any_some p zero e = absurd (false≢true e)
 any_some p (suc n) e =
     ⊎_elim (λ l. let s = any_some p n l in (s.0, omega arith, s.2)) (λ h. (n, omega arith, h)) (or_cases (any_below p n) (p n) e)
 
+-- the first place and the places behind it
+pub any_front : (p : ℕ → Bool) (n : ℕ) → any_below p (suc n) ≡ p 0 || any_below (λ k. p (suc k)) n
+any_front p zero = sym (or-false (p 0))
+any_front p (suc n) = rw (any_front p n) (or_assoc (p 0) (any_below (λ k. p (suc k)) n) (p (suc n)))
+
+-- a test that holds at no place is answered by false
+pub any_none : (p : ℕ → Bool) (n : ℕ) → ((k : ℕ) → p k ≡ false) → any_below p n ≡ false
+any_none p zero h = refl
+any_none p (suc n) h = rw (any_none p n h, h n)
+
 -- ---- sums
 
--- one turn of a loop that sums
-pub sum_more : (f : ℕ → ℕ) (n : ℕ) {s v : ℕ} → s ≡ sum_below f n → v ≡ f n → s + v ≡ sum_below f (n + 1)
-sum_more f n e w = rw (w, e, add-one n)
+-- the first place and the places behind it
+sum_front : (f : ℕ → ℕ) (n : ℕ) → sum_below f (suc n) ≡ f 0 + sum_below (λ k. f (suc k)) n
+sum_front f zero = omega arith
+sum_front f (suc n) = omega (arith, sum_front f n)
 
--- the end of such a loop
+-- the sum over a list is the sum over its places
+pub sum_places : (f : ℕ → ℕ) (xs : List ℕ) → sum_by f xs ≡ sum_below (λ k. f (get_or xs k 0)) (length xs)
+sum_places f [] = refl
+sum_places f (x ∷ xs) = rw (sum_by-cons f x xs, sum_places f xs) (sym (sum_front (λ k. f (get_or (x ∷ xs) k 0)) (length xs)))
+
+-- the end of a loop that sums
 pub sum_done : (f : ℕ → ℕ) {n m s : ℕ} → n ≤ m → m ≤ n → s ≡ sum_below f n → s ≡ sum_below f m
 sum_done f h k w = rw (← le_antisymm h k) w

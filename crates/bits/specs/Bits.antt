@@ -1,9 +1,7 @@
 -- Bits of bytes and of byte strings, counted from bit 0 of byte 0, for any length. Assumes nothing.
-use Rattle.std.specs.Prelude.{ℕ, ◌+◌, ◌/◌, ◌%◌, ◌^◌, Bool, cond, not, List, [], ◌∷◌, eqb, get_or, length}
+use Rattle.std.specs.Prelude.{ℕ, ◌+◌, ◌/◌, ◌%◌, ◌^◌, Bool, cond, not, List, [], ◌∷◌, Option, None, Some, eqb, get_or, length}
 use Rattle.std.specs.Int.Bits.{bit_and}
 use Rattle.std.specs.Int.Count.{ones, count_trailing_zeros}
-use Rattle.bits.specs.declared.Lowest.{Lowest}
-use Rattle.bits.specs.declared.Lowest.TheVariants.{At, Nowhere}
 use Rattle.bits.specs.Lists.{any_below, sum_below}
 
 -- bit k of a byte
@@ -23,10 +21,10 @@ unfoldable pub count_ones : List ℕ → ℕ
 count_ones bytes = sum_below (λ k. ones (get_or bytes k 0)) (length bytes)
 
 -- the place of the lowest one: in the first byte that is not 0, as many bits up as the byte has trailing zeros
-abbrev pub later : Lowest → Lowest
-later (At k) = At (8 + k)
-later Nowhere = Nowhere
+abbrev pub later : Option ℕ → Option ℕ
+later (Some k) = Some (8 + k)
+later None = None
 
-unfoldable pub lowest_in : List ℕ → Lowest
-lowest_in [] = Nowhere
-lowest_in (b ∷ bs) = cond (eqb b 0) (later (lowest_in bs)) (At (count_trailing_zeros 8 b))
+unfoldable pub lowest_in : List ℕ → Option ℕ
+lowest_in [] = None
+lowest_in (b ∷ bs) = cond (eqb b 0) (later (lowest_in bs)) (Some (count_trailing_zeros 8 b))

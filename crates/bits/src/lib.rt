@@ -4,7 +4,7 @@
 // bit stands for (`pnc`), and the reset timers behind it (`timers`).
 #![tactic(auto)]
 
-ghost use Rattle.std.specs.Prelude.{◌≡◌, ◌^◌, ◌<◌, length, get_or};
+ghost use Rattle.std.specs.Prelude.{◌≡◌, ◌^◌, ◌<◌, length};
 ghost use Rattle.std.specs.Int.Count.{count_trailing_zeros};
 ghost use Rattle.bits.specs.Bits.{bit_of, bit_at, some_masked, count_ones, lowest_in};
 
@@ -21,31 +21,14 @@ pub fn bit_of(b: u8, k: u8) -> bool
 pub fn bit_at(bytes: &[u8], k: usize) -> bool
     ensures { result ≡ bit_at bytes.now k }
 {
-    let j = k / 8;
-    if j < bytes.len() {
-        return bit_of(bytes[j], (k % 8) as u8);
-    }
-    false
-}
-
-// Byte k of a byte string, 0 past its end.
-pub fn byte_at(bytes: &[u8], k: usize) -> u8
-    ensures { result ≡ get_or bytes.now k 0 }
-{
-    if k < bytes.len() { bytes[k] } else { 0 }
+    bit_of(bytes.get(k / 8).copied().unwrap_or(0), (k % 8) as u8)
 }
 
 // Is some byte AND its mask byte not 0? A mask that is shorter reads 0 past its end.
 pub fn some_masked(bytes: &[u8], mask: &[u8]) -> bool
     ensures { result ≡ some_masked bytes.now mask.now }
 {
-    let mut found = false;
-    let mut i: usize = 0;
-    while i < bytes.len() {
-        found = found | (bytes[i] & byte_at(mask, i) != 0);
-        i = i + 1;
-    }
-    found
+    bytes.iter().zip(mask).any(|(b, m)| *b & *m != 0)
 }
 
 // How many bits are 1, summed over the bytes.
@@ -53,13 +36,7 @@ pub fn count_ones(bytes: &[u8]) -> u32
     requires { length bytes.now < 2 ^ 28 }
     ensures { result ≡ count_ones bytes.now }
 {
-    let mut n: u32 = 0;
-    let mut i: usize = 0;
-    while i < bytes.len() {
-        n = n + u8::count_ones(bytes[i]);
-        i = i + 1;
-    }
-    n
+    bytes.iter().map(|b| u8::count_ones(*b)).sum()
 }
 
 // The zeros below a byte's lowest 1: 8 where it has none.
@@ -69,25 +46,15 @@ fn trailing_zeros(b: u8) -> usize
     u8::trailing_zeros(b) as usize
 }
 
-// Where the lowest 1 of a byte string stands.
-#[derive(Clone, Copy)]
-pub enum Lowest {
-    At(u32),
-    Nowhere,
-}
-
-// The lowest bit that is 1: in the first byte that is not 0, above its trailing zeros.
-pub fn lowest_one(bytes: &[u8]) -> Lowest
+// The place of the lowest bit that is 1: in the first byte that is not 0, above its trailing zeros.
+pub fn lowest_one(bytes: &[u8]) -> Option<u32>
     requires { length bytes.now < 2 ^ 28 }
     ensures { result ≡ lowest_in bytes.now }
 {
-    let mut i: usize = 0;
-    while i < bytes.len() {
-        let b = bytes[i];
-        if b != 0 {
-            return Lowest::At((8 * i + trailing_zeros(b)) as u32);
+    for (i, b) in bytes.iter().enumerate() {
+        if *b != 0 {
+            return Some((8 * i + trailing_zeros(*b)) as u32);
         }
-        i = i + 1;
     }
-    Lowest::Nowhere
+    None
 }

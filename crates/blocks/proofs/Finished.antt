@@ -1,15 +1,16 @@
 -- Laws of the finished lines of a text. Assumes nothing.
-use mathlib.Core.Path.{◌≡◌, refl, ◌∙◌}
+use mathlib.Core.Path.{◌≡◌, refl, sym, ◌∙◌}
 use mathlib.Core.Bool.{Bool, true, false, cond}
 use mathlib.Core.List.{List, [], ◌∷◌, ◌++◌}
 use Prim.Native.Nat.{ℕ, zero, suc, ◌+◌, ◌-◌, ◌≤◌, ◌<◌}
+use native.Mathlib.Numerals.{add-one}
 use native.Mathlib.Omega.{arith}
 use lib.Dec.{eqb}
 use lib.ListN.{length, take, get_or, length-take}
-use lib.Seq.{take-suc, length-take-le}
+use lib.Seq.{take-suc, take_all, length-take-le}
 use borrow.Author.Tests.{eq-eqb, ne_eqb}
 use Rattle.text.specs.Lines.{line_feed}
-use Rattle.blocks.specs.Blocks.{finished_len, finished_with, kept_of, line_most}
+use Rattle.blocks.specs.Blocks.{NoneFrom, finished_len, finished_with, kept_of, line_most}
 
 -- ---- looking for the last line feed from the end
 
@@ -23,24 +24,27 @@ finished_snoc (y ∷ p) x = rw (finished_snoc p x) (by_byte (eqb x line_feed))
     by_byte true = refl
     by_byte false = refl
 
--- the first n bytes, by the last of them
-last_by : (s : List ℕ) (n : ℕ) → 0 < n → n ≤ length s → finished_len (take n s) ≡ cond (eqb (get_or s (n - 1) 0) line_feed) n (finished_len (take (n - 1) s))
-last_by s zero h l = absurd (omega arith)
-last_by s (suc n) h l =
-    let e : suc n - 1 ≡ n = omega arith in
-    let f : n < length s = omega arith in
-    rw (e, take-suc s n 0, finished_snoc, length-take-le n s (omega arith))
+-- the first n bytes and the next
+one_more : (s : List ℕ) (n : ℕ) → n < length s → finished_len (take (suc n) s) ≡ cond (eqb (get_or s n 0) line_feed) (suc n) (finished_len (take n s))
+one_more s n h = rw (take-suc s n 0, finished_snoc, length-take-le n s (omega arith))
 
-module _ (s : List ℕ) (n : ℕ) (some : 0 < n) (room : n ≤ length s) where
-  pub finished_hit : get_or s (n - 1) 0 ≡ line_feed → finished_len (take n s) ≡ n
-  finished_hit e = last_by s n some room ∙ rw (eq-eqb _ _ e)
+-- where no line ends from place n on, the finished lines are those of the first n bytes
+finished_front : (s : List ℕ) (n m : ℕ) → n + m ≡ length s → NoneFrom n s → finished_len s ≡ finished_len (take n s)
+finished_front s n zero e none = rw (take_all n s (omega arith))
+finished_front s n (suc m) e none =
+    finished_front s (suc n) m (omega arith) (λ k h. none k (omega arith))
+    ∙ one_more s n (omega arith) ∙ rw (ne_eqb _ _ (none n (omega arith) (omega arith)))
 
-  pub finished_miss : (get_or s (n - 1) 0 ≡ line_feed → ⊥) → finished_len (take n s) ≡ finished_len (take (n - 1) s)
-  finished_miss e = last_by s n some room ∙ rw (ne_eqb _ _ e)
+module _ (s : List ℕ) where
+  -- a line ends at place i and none behind it
+  pub finished_some : (i : ℕ) → i < length s → get_or s i 0 ≡ line_feed → NoneFrom (i + 1) s → i + 1 ≡ finished_len s
+  finished_some i h e none =
+      let n : i + 1 ≡ suc i = add-one i in
+      rw n (sym (finished_front s (suc i) (length s - suc i) (omega arith) (λ k l. none k (omega arith)) ∙ one_more s i h ∙ rw (eq-eqb _ _ e)))
 
-pub finished_none : (s : List ℕ) → finished_len (take 0 s) ≡ 0
-unfolding finished_len
-finished_none s = refl
+  pub finished_none : NoneFrom 0 s → 0 ≡ finished_len s
+  unfolding finished_len
+  finished_none none = sym (finished_front s 0 (length s) (omega arith) none)
 
 with_le : (x n m : ℕ) → n ≤ m → finished_with x n ≤ suc m
 with_le x zero m h = by_byte (eqb x line_feed)

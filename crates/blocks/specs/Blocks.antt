@@ -1,5 +1,5 @@
 -- A text that is read in blocks: the lines that are finished, and what is kept of the unfinished one. Assumes nothing.
-use Rattle.std.specs.Prelude.{ℕ, zero, suc, ◌+◌, Bool, cond, List, [], ◌∷◌, eqb, leb, length, take, drop}
+use Rattle.std.specs.Prelude.{ℕ, zero, suc, ◌+◌, ◌≤◌, ◌<◌, ◌≢◌, slice_index, Bool, cond, List, [], ◌∷◌, eqb, leb, length, take, drop}
 use Rattle.text.specs.Lines.{line_feed, lines_of}
 
 -- the most bytes that a line may have
@@ -19,6 +19,10 @@ finished_with x (suc n) = suc (suc n)
 unfoldable pub finished_len : List ℕ → ℕ
 finished_len [] = zero
 finished_len (x ∷ xs) = finished_with x (finished_len xs)
+
+-- no line ends from place n on
+abbrev pub NoneFrom : ℕ → List ℕ → Type 0
+NoneFrom n s = (k : ℕ) → n ≤ k → k < length s → slice_index s k ≢ line_feed
 
 -- the finished lines of a text
 abbrev pub finished_lines : List ℕ → List (List ℕ)

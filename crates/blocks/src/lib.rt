@@ -5,24 +5,28 @@
 // others: the lines themselves (`text`), which blocks are taken, and what is kept between them (`trace`).
 #![tactic(auto)]
 
-ghost use Rattle.std.specs.Prelude.{◌≡◌};
-ghost use Rattle.blocks.specs.Blocks.{finished_len, lines_fit};
+ghost use Rattle.std.specs.Prelude.{◌≡◌, ◌+◌, ◌<◌, MatchOption, length, slice_index};
+ghost use Rattle.text.specs.Lines.{line_feed};
+ghost use Rattle.blocks.specs.Blocks.{NoneFrom, finished_len, lines_fit};
 
 // The most bytes that a line may have. One byte more tells that it is too long, so no more of it is kept.
 pub const LINE_MOST: usize = 80;
+
+// The place of the last line feed.
+fn last_end(s: &[u8]) -> Option<usize>
+    ensures { MatchOption result (NoneFrom 0 s.now) (λ i. (i < length s.now) × (slice_index s.now i ≡ line_feed) × NoneFrom (i + 1) s.now) }
+{
+    s.iter().rposition(|b| *b == text::LINE_FEED)
+}
 
 // How many bytes the finished lines of a text have, with their line feeds: where its unfinished line begins.
 pub fn finished_len(s: &[u8]) -> usize
     ensures { result ≡ finished_len s.now }
 {
-    let mut n = s.len();
-    while 0 < n {
-        if s[n - 1] == text::LINE_FEED {
-            return n;
-        }
-        n -= 1;
+    match last_end(s) {
+        Some(i) => i + 1,
+        None => 0,
     }
-    n
 }
 
 // The most lines that are counted, which is the largest number of a line.

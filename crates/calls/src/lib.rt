@@ -20,28 +20,20 @@ use decision::Rule;
 fn finish(ch: Channel, a: Answer, rule: Rule, again: bool) -> Reply
     ensures { result ≡ finished ch a rule again }
 {
-    if refusals::is_done(a) {
+    if a.is_ok() {
         return channel::moved(ch, rule, again, false, false);
     }
     channel::refused(ch, a)
 }
 
-// A call by its number, with what the table's rows 4 and 6 say of it.
+// A call by its number, with what the table's rows 4 and 6 say of it. The eight public calls stay apart: each is one call of
+// this, with its own clause.
 fn plain(ch: Channel, call: u8, passive: bool, off: bool, heeded: bool) -> Reply
     ensures { result ≡ plainly ch call passive off heeded }
 {
-    let m = ch.own.mode;
-    let state = m.state;
-    let ok = soundness::sound(
-        ch.own.config,
-        ch.own.ticks,
-        m,
-        ch.own.traffic,
-        &ch.own.era,
-        &ch.eira,
-    );
-    let rule = decision::rule_of(state, call);
-    let a = refusals::judge(ok, passive, off, decision::is_not_here(rule), false);
+    let sound = ch.is_sound();
+    let rule = decision::rule_of(ch.own.mode.state, call);
+    let a = refusals::judge(sound, passive, off, decision::is_not_here(rule), false);
     finish(ch, a, decision::heed(heeded, rule), false)
 }
 

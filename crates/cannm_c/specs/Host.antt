@@ -1,9 +1,8 @@
 -- What the C host gets: answer number, rule and values. Assumes nothing.
-use Rattle.std.specs.Prelude.{ℕ, cond, not, List, eqb}
-use Rattle.answers.specs.declared.Answer.{Answer}
-use Rattle.answers.specs.declared.Answer.TheVariants.{Done, Rule}
-use Rattle.answers.specs.Answers.{number_of, rule_of}
-use Rattle.ticks.specs.declared.Conversion.{Conversion}
+use Rattle.std.specs.Prelude.{ℕ, not, List, eqb, Result}
+use Rattle.std.specs.Result.{result_unwrap_or}
+use Rattle.answers.specs.declared.BrokenRule.{BrokenRule}
+use Rattle.answers.specs.Answers.{number_of, rule_of, ruled}
 use Rattle.ticks.specs.Ticks.{conversion_of}
 use Rattle.config.specs.declared.Layout.{Layout}
 use Rattle.pdu.specs.Pdu.{Taken, header_reading}
@@ -13,11 +12,8 @@ use Rattle.cannm_c.specs.declared.FilterResult.{FilterResult}
 use Rattle.cannm_c.specs.declared.HeaderResult.{HeaderResult}
 
 -- the conversion: a broken rule is an answer of its own
-abbrev pub ruled : ℕ → Answer
-ruled rule = cond (eqb rule 0) Done (Rule rule)
-
-abbrev pub converted : Conversion → TicksResult
-converted t = record { answer = number_of (ruled t.rule); rule = rule_of (ruled t.rule); ticks = t.ticks }
+abbrev pub converted : Result ℕ BrokenRule → TicksResult
+converted t = record { answer = number_of (ruled t); rule = rule_of (ruled t); ticks = result_unwrap_or t 0 }
 
 unfoldable pub converted_for : ℕ → ℕ → TicksResult
 converted_for period ms = converted (conversion_of period ms)

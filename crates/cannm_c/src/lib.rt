@@ -6,10 +6,10 @@
 #![tactic(auto)]
 
 ghost use Rattle.std.specs.Prelude.{◌≡◌};
-ghost use Rattle.cannm_c.specs.Host.{converted_for, decided_for, read_for, ruled};
+ghost use Rattle.cannm_c.specs.Host.{converted_for, decided_for, read_for};
 
-use answers::Answer;
 use config::Layout;
+use pdu::Header;
 
 #[repr(C)]
 #[derive(Clone, Copy)]
@@ -35,31 +35,23 @@ pub struct HeaderResult {
     pub cbv: u32,
 }
 
-// The answer by the rule that is broken, 0 for none.
-fn ruled(rule: u8) -> Answer
-    ensures { result ≡ ruled rule }
-{
-    if rule == 0 {
-        return Answer::Done;
-    }
-    Answer::Rule(rule)
-}
-
 // Milliseconds in ticks.
+#[tactic(auto, unfolding(crate::specs::Host::converted_for))]
 #[unsafe(no_mangle)]
 pub extern "C" fn cannm_ticks(period: u32, ms: u32) -> TicksResult
     ensures { result ≡ converted_for period ms }
 {
     let t = ticks::to_ticks(period as u64, ms as u64);
-    let a = ruled(t.rule);
+    let a = answers::ruled(t);
     TicksResult {
         answer: answers::number(a) as u32,
         rule: answers::rule(a) as u32,
-        ticks: t.ticks as u32,
+        ticks: t.unwrap_or(0) as u32,
     }
 }
 
 // The filter's decision, the filter taken as on.
+#[tactic(auto, unfolding(crate::specs::Host::decided_for))]
 #[unsafe(no_mangle)]
 pub extern "C" fn cannm_pn_filter(awake: u32, cbv: u32, pn: &[u8], mask: &[u8]) -> FilterResult
     ensures { result ≡ decided_for awake cbv pn.now mask.now }
@@ -72,6 +64,7 @@ pub extern "C" fn cannm_pn_filter(awake: u32, cbv: u32, pn: &[u8], mask: &[u8]) 
 }
 
 // The source node id and the control bit vector of a PDU.
+#[tactic(auto, unfolding(crate::specs::Host::read_for))]
 #[unsafe(no_mangle)]
 pub extern "C" fn cannm_read_pdu(length: u32, sni: u32, cbv: u32, pdu: &[u8]) -> HeaderResult
     ensures { result ≡ read_for length sni cbv pdu.now }
@@ -84,11 +77,12 @@ pub extern "C" fn cannm_read_pdu(length: u32, sni: u32, cbv: u32, pdu: &[u8]) ->
         },
         pdu,
     );
-    let a = r.answer;
+    let a = answers::answer_to(r);
+    let header = r.unwrap_or(Header { sni: 0, cbv: 0 });
     HeaderResult {
         answer: answers::number(a) as u32,
         rule: answers::rule(a) as u32,
-        sni: r.sni as u32,
-        cbv: r.cbv as u32,
+        sni: header.sni as u32,
+        cbv: header.cbv as u32,
     }
 }

@@ -19,63 +19,74 @@ const OUTPUT: usize = 131072;
 
 // ---- writing
 
-// The first n bytes of the output are written.
-fn written<W: Write>(to: &mut W, out: &[u8], n: usize) -> io::Result<()> {
-    to.write_all(slices::part(out, 0, n))
+// What is printed and not yet written: the first `n` bytes.
+#[derive(Drop)]
+struct Output {
+    bytes: [u8; OUTPUT],
+    n: usize,
 }
 
-// Text behind the first n bytes of the output. Where it has no room there, these are written first. Answers how many bytes of
-// the output hold text that is still to be written.
-fn append<W: Write>(
-    to: &mut W,
-    out: &mut [u8; OUTPUT],
-    n: usize,
-    text: &[u8],
-) -> io::Result<usize> {
-    if slices::part(out, n, text.len()).len() == text.len() {
-        slices::put_part(out, n, text);
-        return Ok(n + text.len());
+impl Output {
+    // What is not yet written is.
+    fn write_to<W: Write>(&mut self, to: &mut W) -> io::Result<()> {
+        to.write_all(slices::part(&self.bytes, 0, self.n))?;
+        self.n = 0;
+        Ok(())
     }
-    written(to, out, n)?;
-    slices::copy(text, out);
-    Ok(text.len())
+
+    // Text behind it. Where it has no room there, what is not yet written is written first.
+    fn append<W: Write>(&mut self, to: &mut W, text: &[u8]) -> io::Result<()> {
+        if slices::part(&self.bytes, self.n, text.len()).len() == text.len() {
+            slices::put_part(&mut self.bytes, self.n, text);
+            self.n += text.len();
+            return Ok(());
+        }
+        self.write_to(to)?;
+        slices::copy(text, &mut self.bytes);
+        self.n = text.len();
+        Ok(())
+    }
+}
+
+// What is read into, what a block prints into, and what is then to be written.
+#[derive(Drop)]
+struct Buffers {
+    input: [u8; INPUT],
+    page: [u8; BLOCK_ROOM],
+    out: Output,
 }
 
 // ---- blocks
 
-// What was read, block by block, and all that it prints is written. Answers the trace behind it, or none where no block is to
-// follow. After a write that fails, nothing more is written. No input is so long that a block is refused; should one be, nothing
-// more is printed: what the lines behind it would have said is not known.
+// The first n bytes of what was read, block by block, and all that it prints is written. Answers the trace behind it, or none
+// where no block is to follow. After a write that fails, nothing more is written. No input is so long that a block is refused;
+// should one be, nothing more is printed: what the lines behind it would have said is not known.
 fn blocks<W: Write>(
     to: &mut W,
     trace: Trace,
-    text: &[u8],
-    page: &mut [u8; BLOCK_ROOM],
-    out: &mut [u8; OUTPUT],
+    n: usize,
+    buffers: &mut Buffers,
 ) -> io::Result<Option<Trace>> {
     let mut now = trace;
-    let mut ok = true;
-    let mut n: usize = 0;
-    let mut at: usize = 0;
-    while at < text.len() {
-        let r = trace::block(now, slices::part(text, at, BLOCK_MOST), page);
-        let answer = r.answer;
-        now = r.trace;
-        n = append(to, out, n, slices::part(page, 0, r.at))?;
-        ok = refusals::is_done(answer);
-        if !ok {
-            break;
+    for block in slices::part(&buffers.input, 0, n).chunks(BLOCK_MOST) {
+        let r = trace::block(now, block, &mut buffers.page);
+        buffers
+            .out
+            .append(to, slices::part(&buffers.page, 0, r.at))?;
+        if r.answer.is_err() {
+            buffers.out.write_to(to)?;
+            return Ok(None);
         }
-        at += BLOCK_MOST;
+        now = r.trace;
     }
-    written(to, out, n)?;
-    Ok(if ok { Some(now) } else { None })
+    buffers.out.write_to(to)?;
+    Ok(Some(now))
 }
 
 // The end of the input.
-fn end<W: Write>(to: &mut W, trace: Trace, page: &mut [u8; BLOCK_ROOM]) -> io::Result<()> {
-    let r = trace::end(trace, page);
-    written(to, page, r.at)
+fn end<W: Write>(to: &mut W, trace: Trace, buffers: &mut Buffers) -> io::Result<()> {
+    let r = trace::end(trace, &mut buffers.page);
+    to.write_all(slices::part(&buffers.page, 0, r.at))
 }
 
 // ---- the loop
@@ -86,29 +97,21 @@ fn turn<R: Read, W: Write>(
     from: &mut R,
     to: &mut W,
     trace: Trace,
-    buf: &mut [u8; INPUT],
-    page: &mut [u8; BLOCK_ROOM],
-    out: &mut [u8; OUTPUT],
+    buffers: &mut Buffers,
 ) -> io::Result<Option<Trace>> {
-    let n = from.read(buf)?;
+    let n = from.read(&mut buffers.input)?;
     if n == 0 {
-        end(to, trace, page)?;
+        end(to, trace, buffers)?;
         return Ok(None);
     }
-    blocks(to, trace, slices::part(buf, 0, n), page, out)
+    blocks(to, trace, n, buffers)
 }
 
 // The turns are counted only so that the loop is seen to end: there are more than any input has bytes.
-fn run_all<R: Read, W: Write>(
-    from: &mut R,
-    to: &mut W,
-    buf: &mut [u8; INPUT],
-    page: &mut [u8; BLOCK_ROOM],
-    out: &mut [u8; OUTPUT],
-) -> io::Result<()> {
+fn run_all<R: Read, W: Write>(from: &mut R, to: &mut W, buffers: &mut Buffers) -> io::Result<()> {
     let mut now = trace::start();
     for _ in 0..u64::MAX {
-        match turn(from, to, now, buf, page, out)? {
+        match turn(from, to, now, buffers)? {
             Some(next) => now = next,
             None => return Ok(()),
         }
@@ -118,14 +121,13 @@ fn run_all<R: Read, W: Write>(
 
 // A read or a write that fails ends the run, and the exit status is 0 then too.
 fn main(rt: HostRuntime) {
-    let mut buf = [0u8; INPUT];
-    let mut page = [0u8; BLOCK_ROOM];
-    let mut out = [0u8; OUTPUT];
-    let _ = run_all(
-        &mut rt.stdin(),
-        &mut rt.stdout(),
-        &mut buf,
-        &mut page,
-        &mut out,
-    );
+    let mut buffers = Buffers {
+        input: [0u8; INPUT],
+        page: [0u8; BLOCK_ROOM],
+        out: Output {
+            bytes: [0u8; OUTPUT],
+            n: 0,
+        },
+    };
+    let _ = run_all(&mut rt.stdin(), &mut rt.stdout(), &mut buffers);
 }

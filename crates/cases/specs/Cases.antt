@@ -1,16 +1,16 @@
 -- The cases to be proved, in one table: numbers that the definitions give, and those that they should give. Assumes nothing.
-use Rattle.std.specs.Prelude.{ℕ, zero, suc, Bool, true, false, cond, List, [], ◌∷◌}
-use Rattle.ticks.specs.declared.Conversion.{Conversion}
+use Rattle.std.specs.Prelude.{ℕ, zero, suc, Bool, true, false, cond, List, [], ◌∷◌, Option, Some, None, Result}
+use Rattle.std.specs.Result.{result_unwrap_or}
+use Rattle.answers.specs.declared.BrokenRule.{BrokenRule}
+use Rattle.answers.specs.declared.Refusal.{Refusal}
 use Rattle.ticks.specs.Ticks.{conversion_of}
 use Rattle.config.specs.declared.Config.{Config}
 use Rattle.config.specs.declared.Partial.{Partial}
 use Rattle.rules.specs.Rules.{first_broken}
-use Rattle.answers.specs.Answers.{number_of}
-use Rattle.filter.specs.declared.Verdict.{Verdict}
+use Rattle.answers.specs.Answers.{number_of, rule_of, ruled}
 use Rattle.filter.specs.Filter.{verdict_of, verdict_answer, verdict_value}
 use Rattle.states.specs.declared.Note.{Note}
 use Rattle.states.specs.declared.Note.TheVariants.{
-  Nothing,
   NetworkMode,
   NetworkStart,
   PrepareBusSleep,
@@ -32,33 +32,33 @@ pub record Case : Type 0 where
 -- ---- kinds of case
 
 -- a time at a period is so many ticks
-abbrev given : Conversion → List ℕ
-given t = t.rule ∷ t.ticks ∷ []
+abbrev given : Result ℕ BrokenRule → List ℕ
+given t = rule_of (ruled t) ∷ result_unwrap_or t 0 ∷ []
 
 abbrev pub converts : ℕ → ℕ → ℕ → Case
 converts period ms ticks = record { got = given (conversion_of period ms); wanted = 0 ∷ ticks ∷ [] }
 
 -- a configuration breaks this rule first, 0 for none
 abbrev pub breaks : Config → ℕ → Case
-breaks c rule = record { got = first_broken c ∷ []; wanted = rule ∷ [] }
+breaks c rule = record { got = rule_of (ruled (first_broken c)) ∷ []; wanted = rule ∷ [] }
 
 -- the filter keeps (1) or drops (0) a PDU with these PN bytes
-abbrev decided : Verdict → List ℕ
+abbrev decided : Result Bool Refusal → List ℕ
 decided v = number_of (verdict_answer v) ∷ verdict_value v ∷ []
 
 abbrev pub judges : List ℕ → List ℕ → ℕ → Case
 judges mask pn keep = record { got = decided (verdict_of false 64 pn mask); wanted = 0 ∷ keep ∷ [] }
 
 -- after some calls on a freshly initialised channel, one more call gives this answer, state and notes, EI and ER last
-abbrev pub note_number : Note → ℕ
-note_number Nothing = 0
-note_number NetworkMode = 1
-note_number NetworkStart = 2
-note_number PrepareBusSleep = 3
-note_number BusSleep = 4
-note_number Timeout = 5
-note_number RemoteSleepCancelled = 6
-note_number RemoteSleepIndication = 7
+abbrev pub note_number : Option Note → ℕ
+note_number None = 0
+note_number (Some NetworkMode) = 1
+note_number (Some NetworkStart) = 2
+note_number (Some PrepareBusSleep) = 3
+note_number (Some BusSleep) = 4
+note_number (Some Timeout) = 5
+note_number (Some RemoteSleepCancelled) = 6
+note_number (Some RemoteSleepIndication) = 7
 
 abbrev flag : Bool → ℕ
 flag b = cond b 1 0

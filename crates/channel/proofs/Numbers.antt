@@ -22,7 +22,7 @@ use Rattle.decision.specs.Decision.{
 }
 use Rattle.refusals.specs.Refusals.{refusal, refused_passive, refused_pn_off}
 use Rattle.channel.specs.Channel.{again_for, answer_of, carried_out, eira_after, era_after, heard_by, mode_after, notes_after, own_after, replied, requests_after, rule_for, sends, traffic_after, traffic_moved, user_after}
-use Rattle.channel.specs.Moved.{finished, moved_by, moved_to, plainly}
+use Rattle.channel.specs.Moved.{finished, moved_by, plainly}
 
 -- the calls that change no vector and no byte; a bad confirmation is not heeded
 abbrev pub Plain : Call → Type 0
@@ -57,7 +57,7 @@ heeded (main_function taken room) = true
 
 pub by_number : (ch : Channel) (x : Call) → Plain x
     → replied ch x ≡ plainly ch (call_number x) (refused_passive ch.own.config x) (refused_pn_off ch.own.config x) (heeded x)
-unfolding replied answer_of refusal carried_out own_after notes_after mode_after traffic_after traffic_moved user_after requests_after era_after eira_after heard_by sends rule_for again_for plainly finished moved_by moved_to
+unfolding replied answer_of refusal carried_out own_after notes_after mode_after traffic_after traffic_moved user_after requests_after era_after eira_after heard_by sends rule_for again_for plainly finished moved_by
 by_number ch network_request p = rw (differs_not ch.eira, differs_not ch.own.era)
 by_number ch network_release p = rw (differs_not ch.eira, differs_not ch.own.era)
 by_number ch passive_start_up p = rw (differs_not ch.eira, differs_not ch.own.era)

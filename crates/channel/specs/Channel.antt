@@ -1,16 +1,13 @@
 -- The channel: the fresh one, what is sound, and what every call gives. Assumes nothing.
-use Rattle.std.specs.Prelude.{ℕ, Bool, true, false, cond, ◌&&◌, List, [], ◌∷◌, eqb, length, replicate}
+use Rattle.std.specs.Prelude.{ℕ, Bool, true, false, cond, ◌&&◌, List, [], ◌∷◌, Option, None, Some, length, replicate, is_ok}
 use Rattle.std.proofs.lemmas.List.Edits.{sets}
-use Rattle.answers.specs.declared.Answer.{Answer}
-use Rattle.answers.specs.declared.Answer.TheVariants.{Done, Rule}
-use Rattle.bits.specs.declared.Lowest.{Lowest}
-use Rattle.bits.specs.declared.Lowest.TheVariants.{At, Nowhere}
+use Rattle.answers.specs.Answers.{Answer, Done, ruled}
 use Rattle.bits.specs.Bits.{count_ones, lowest_in}
 use Rattle.timers.specs.Timers.{counted_down}
 use Rattle.vectors.specs.Vectors.{vector_byte, vectors_differ}
 use Rattle.pnc.specs.Pnc.{number_in, number_or_zero, range_of}
 use Rattle.config.specs.declared.Config.{Config}
-use Rattle.config.specs.declared.Ticks.{Ticks}
+use Rattle.config.specs.Times.{Ticks}
 use Rattle.config.specs.Ranges.{pdu_most, pnc_most, pn_most}
 use Rattle.rules.specs.Rules.{first_broken}
 use Rattle.time_rules.specs.TimeRules.{ticks_for}
@@ -21,7 +18,6 @@ use Rattle.channel.specs.declared.state.Own.{Own}
 use Rattle.channel.specs.declared.state.Channel.{Channel}
 use Rattle.channel.specs.declared.state.Notes.{Notes}
 use Rattle.states.specs.declared.Note.{Note}
-use Rattle.states.specs.declared.Note.TheVariants.{Nothing}
 use Rattle.channel.specs.declared.state.Reply.{Reply}
 use Rattle.channel.specs.declared.state.Started.{Started}
 use Rattle.channel.specs.declared.state.Status.{Status}
@@ -40,7 +36,7 @@ use Rattle.heard.specs.Heard.{accepted, asks_repeat, loaded_by}
 use Rattle.frames.specs.Frames.{framed, sent_loaded}
 use Rattle.refusals.specs.Refusals.{refusal, is_done, judged}
 
-abbrev pub notes : Note → Note → Bool → Bool → Notes
+abbrev pub notes : Option Note → Option Note → Bool → Bool → Notes
 notes first second ei er = record { first = first; second = second; eira = ei; era = er }
 
 -- ---- sound
@@ -109,7 +105,7 @@ started ch a = record { channel = ch; answer = a }
 
 unfoldable pub initialised : Config → Started
 initialised c =
-    cond (eqb (first_broken c) 0) (started (fresh c (ticks_for c)) Done) (started zero (Rule (first_broken c)))
+    cond (is_ok (first_broken c)) (started (fresh c (ticks_for c)) Done) (started zero (ruled (first_broken c)))
 
 -- ---- a call that is carried out
 
@@ -296,7 +292,7 @@ carried_out ch x =
 
 -- refused: the same channel, no note, no frame
 unfoldable pub refused : Channel → Answer → Reply
-refused ch a = record { channel = ch; answer = a; notes = notes Nothing Nothing false false; sent = false }
+refused ch a = record { channel = ch; answer = a; notes = notes None None false false; sent = false }
 
 unfoldable pub answer_of : Channel → Call → Answer
 answer_of ch x = judged (sound ch) (refusal ch.own.config ch.own.mode.state x)
@@ -330,9 +326,9 @@ vector_of ts =
     vector_byte ts 0 ∷ vector_byte ts 8 ∷ vector_byte ts 16 ∷ vector_byte ts 24 ∷ vector_byte ts 32 ∷ vector_byte ts 40 ∷ vector_byte ts 48 ∷ []
 
 -- the PNC of the lowest one, 0 for none
-abbrev pub lowest_pnc : Config → Lowest → ℕ
-lowest_pnc c (At k) = number_or_zero (number_in (range_of c) (record { 0 = k }))
-lowest_pnc c Nowhere = 0
+abbrev pub lowest_pnc : Config → Option ℕ → ℕ
+lowest_pnc c (Some k) = number_or_zero (number_in (range_of c) (record { 0 = k }))
+lowest_pnc c None = 0
 
 -- the number of requested PNCs is the number of ones in EIRA's vector
 unfoldable pub shown : Channel → Status

@@ -1,3 +1,3 @@
 pub mod Channel
 pub mod Moved
-pub mod Parts
+pub mod Told

@@ -1,14 +1,7 @@
 -- Steps that the code of the calls goes by: a channel moved by a rule, and a call that is answered. Assumes nothing.
 use Rattle.std.specs.Prelude.{ℕ, Bool, false, cond}
-use Rattle.answers.specs.declared.Answer.{Answer}
-use Rattle.answers.specs.declared.Answer.TheVariants.{Done}
-use Rattle.config.specs.declared.Config.{Config}
-use Rattle.config.specs.declared.Ticks.{Ticks}
+use Rattle.answers.specs.Answers.{Answer, Done}
 use Rattle.channel.specs.declared.state.Channel.{Channel}
-use Rattle.channel.specs.declared.state.Effect.{Effect}
-use Rattle.states.specs.declared.Mode.{Mode}
-use Rattle.states.specs.declared.Note.{Note}
-use Rattle.states.specs.declared.Traffic.{Traffic}
 use Rattle.channel.specs.declared.state.Reply.{Reply}
 use Rattle.decision.specs.declared.Rule.{Rule}
 use Rattle.mode_transitions.specs.ModeTransitions.{mode_by}
@@ -18,22 +11,32 @@ use Rattle.notes.specs.Notes.{first_by, second_by}
 use Rattle.decision.specs.declared.Rule.TheVariants.{Keep}
 use Rattle.decision.specs.Decision.{is_not_here, rule_of}
 use Rattle.refusals.specs.Refusals.{first_of, is_done, judged}
-use Rattle.channel.specs.Channel.{refused, sound}
-use Rattle.channel.specs.Parts.{effect, reply_on}
+use Rattle.channel.specs.Channel.{notes, refused, sound}
 
 -- moved by a rule; ei and er say whether the vectors changed
-unfoldable pub moved_to : Config → Ticks → Mode → Traffic → Rule → Bool → Bool → Bool → Effect
-moved_to c t m x rule again ei er =
-    effect (mode_by rule again t m) (traffic_by rule again (setup_of c t) m (mode_by rule again t m) x) Done
-    (first_by rule m (mode_by rule again t m))
-    (second_by rule m x)
-    ei
-    er
-    false
-
 unfoldable pub moved_by : Channel → Rule → Bool → Bool → Bool → Reply
 moved_by ch rule again ei er =
-    reply_on ch (moved_to ch.own.config ch.own.ticks ch.own.mode ch.own.traffic rule again ei er)
+    let o = ch.own in
+    let after = mode_by rule again o.ticks o.mode in
+    record {
+      channel =
+          record {
+            own =
+                record {
+                  config = o.config;
+                  ticks = o.ticks;
+                  mode = after;
+                  traffic = traffic_by rule again (setup_of o.config o.ticks) o.mode after o.traffic;
+                  user = o.user;
+                  requests = o.requests;
+                  era = o.era;
+                };
+            eira = ch.eira;
+          };
+      answer = Done;
+      notes = notes (first_by rule o.mode after) (second_by rule o.mode o.traffic) ei er;
+      sent = false;
+    }
 
 -- answered: moved where nothing is refused
 unfoldable pub finished : Channel → Answer → Rule → Bool → Reply
@@ -45,7 +48,3 @@ plainly ch call passive off heeded =
     finished ch (judged (sound ch) (first_of passive off (is_not_here (rule_of ch.own.mode.state call)) false))
     (cond heeded (rule_of ch.own.mode.state call) Keep)
     false
-
--- the effect of a tick that is carried out
-unfoldable pub tick_effect : Mode → Traffic → Note → Note → Bool → Bool → Bool → Effect
-tick_effect m x first second ei er sent = effect m x Done first second ei er sent

@@ -1,81 +1,46 @@
-// One CanNm channel: its value, the fresh one, and what calls end in: a reply, or its effect on a channel in parts.
-// specs/Channel says what every call gives.
+// One CanNm channel: its value, the fresh one, and what calls end in: a reply, or what a call tells of a channel that it
+// changes in place. specs/Channel says what every call gives.
 //
 // Promises: each function is a definition of specs/. Leaves to others: the calls themselves (`calls`, `status`,
 // `reception`, `inputs`, `tick`), in which tick Bus-Sleep is entered, over whole lists of calls (`sleep`), and the CAN driver.
 #![tactic(auto)]
 
 ghost use Rattle.std.specs.Prelude.{◌≡◌};
-ghost use Rattle.channel.specs.Channel.{fresh, fresh_mode, fresh_traffic, initialised, refused, zero, zero_config, zero_ticks};
-ghost use Rattle.channel.specs.Moved.{moved_by, moved_to};
-ghost use Rattle.channel.specs.Parts.{channel_of, effect_of, reply_of, unmoved};
+ghost use Rattle.channel.specs.Channel.{fresh, fresh_mode, initialised, refused, sound, zero};
+ghost use Rattle.channel.specs.Moved.{moved_by};
+ghost use Rattle.channel.specs.Told.{reply_of, unmoved};
 
-use answers::Answer;
-use config::{Config, Layout, PDU_MOST, PNC_MOST, Partial, Ticks, Times};
+use answers::{Answer, Refusal};
+use config::{Config, PDU_MOST, PNC_MOST, Ticks, Times};
 use decision::Rule;
-use state::{Channel, Effect, Notes, Own, Reply, Started};
-use states::{Mode, Note, State, Traffic};
+use state::{Channel, Notes, Own, Reply, Started, Told};
+use states::{Mode, State, Traffic};
 
 pub mod state;
 
-// ---- parts
+// ---- replies
 
-// The channel of its parts.
-pub fn channel_of(
-    c: Config,
-    t: Ticks,
-    m: Mode,
-    x: Traffic,
-    user: [u8; PDU_MOST],
-    requests: [u8; PDU_MOST],
-    era: [u16; PNC_MOST],
-    eira: [u16; PNC_MOST],
-) -> Channel
-    ensures { result ≡ channel_of c t m x user requests era eira }
-{
-    let own = Own {
-        config: c,
-        ticks: t,
-        mode: m,
-        traffic: x,
-        user: user,
-        requests: requests,
-        era: era,
-    };
-    Channel {
-        own: own,
-        eira: eira,
-    }
-}
-
-// What a reply says besides the tables and bytes of its channel.
-pub fn effect_of(r: Reply) -> Effect
-    ensures { result ≡ effect_of r }
-{
-    let mode = r.channel.own.mode;
-    let traffic = r.channel.own.traffic;
-    let answer = r.answer;
-    let notes = r.notes;
-    Effect {
-        mode: mode,
-        traffic: traffic,
-        answer: answer,
-        notes: notes,
-        sent: r.sent,
-    }
-}
-
-// ---- refused
-
-pub fn refused(ch: Channel, a: Answer) -> Reply
-    ensures { result ≡ refused ch a }
+// The reply of a call that left this channel.
+pub fn reply_of(ch: Channel, told: Told) -> Reply
+    ensures { result ≡ reply_of ch told }
 {
     Reply {
         channel: ch,
+        answer: told.answer,
+        notes: told.notes,
+        sent: told.sent,
+    }
+}
+
+// What a call tells that is refused.
+pub fn unmoved(a: Answer) -> Told
+    ensures { result ≡ unmoved a }
+{
+    Told {
         answer: a,
         notes: Notes {
-            first: Note::Nothing,
-            second: Note::Nothing,
+            first: None,
+            second: None,
             eira: false,
             era: false,
         },
@@ -83,51 +48,36 @@ pub fn refused(ch: Channel, a: Answer) -> Reply
     }
 }
 
-// The same of a channel in parts.
-pub fn unmoved(m: Mode, x: Traffic, a: Answer) -> Effect
-    ensures { result ≡ unmoved m x a }
+#[tactic(auto, unfolding(crate::specs::Channel::refused))]
+pub fn refused(ch: Channel, a: Answer) -> Reply
+    ensures { result ≡ refused ch a }
 {
-    Effect {
-        mode: m,
-        traffic: x,
-        answer: a,
-        notes: Notes {
-            first: Note::Nothing,
-            second: Note::Nothing,
-            eira: false,
-            era: false,
-        },
-        sent: false,
-    }
+    reply_of(ch, unmoved(a))
 }
 
 // ---- carried out
 
-// The effect of a rule, with its notes.
-pub fn moved_to(
-    c: Config,
-    t: Ticks,
-    before: Mode,
-    old: Traffic,
-    rule: Rule,
-    again: bool,
-    ei: bool,
-    er: bool,
-) -> Effect
-    ensures { result ≡ moved_to c t before old rule again ei er }
+// Moves the channel by a rule, and tells its notes; ei and er say whether the vectors of EIRA and ERA changed.
+#[tactic(auto, unfolding(crate::specs::Moved::moved_by))]
+pub fn move_by(ch: &mut Channel, rule: Rule, again: bool, ei: bool, er: bool) -> Told
+    ensures moves { reply_of ch.new result ≡ moved_by ch.old rule again ei er }
+    ensures keeps { (ch.new.own.config ≡ ch.old.own.config) × (ch.new.own.ticks ≡ ch.old.own.ticks) }
 {
+    let t = ch.own.ticks;
+    let before = ch.own.mode;
+    let old = ch.own.traffic;
     let after = mode_transitions::mode_by(rule, again, t, before);
-    let s = traffic::setup_of(c, t);
+    let s = traffic::setup_of(ch.own.config, t);
     let new = traffic_transitions::traffic_by(rule, again, s, before, after, old);
+    ch.own.mode = after;
+    ch.own.traffic = new;
     let first = notes::first_by(rule, before, after);
     let second = notes::second_by(rule, before, old);
-    Effect {
-        mode: after,
-        traffic: new,
-        answer: Answer::Done,
+    Told {
+        answer: Ok(()),
         notes: Notes {
-            first: first,
-            second: second,
+            first,
+            second,
             eira: ei,
             era: er,
         },
@@ -135,42 +85,12 @@ pub fn moved_to(
     }
 }
 
-// The reply of an effect, with the parts that stay and those that were changed in place.
-pub fn reply_of(
-    c: Config,
-    t: Ticks,
-    e: Effect,
-    user: [u8; PDU_MOST],
-    requests: [u8; PDU_MOST],
-    era: [u16; PNC_MOST],
-    eira: [u16; PNC_MOST],
-) -> Reply
-    ensures { result ≡ reply_of c t e user requests era eira }
-{
-    let mode = e.mode;
-    let traffic = e.traffic;
-    let answer = e.answer;
-    let notes = e.notes;
-    Reply {
-        channel: channel_of(c, t, mode, traffic, user, requests, era, eira),
-        answer: answer,
-        notes: notes,
-        sent: e.sent,
-    }
-}
-
 // The channel moved by a rule, with its notes.
-pub fn moved(ch: Channel, rule: Rule, again: bool, ei: bool, er: bool) -> Reply
+pub fn moved(mut ch: Channel, rule: Rule, again: bool, ei: bool, er: bool) -> Reply
     ensures { result ≡ moved_by ch rule again ei er }
 {
-    let c = ch.own.config;
-    let t = ch.own.ticks;
-    let user = ch.own.user;
-    let requests = ch.own.requests;
-    let era = ch.own.era;
-    let eira = ch.eira;
-    let e = moved_to(c, t, ch.own.mode, ch.own.traffic, rule, again, ei, er);
-    reply_of(c, t, e, user, requests, era, eira)
+    let told = move_by(&mut ch, rule, again, ei, er);
+    reply_of(ch, told)
 }
 
 // ---- initialising
@@ -189,86 +109,25 @@ fn fresh_mode() -> Mode
     }
 }
 
-fn fresh_traffic() -> Traffic
-    ensures { result ≡ fresh_traffic }
-{
-    Traffic {
-        message: 0,
-        fast: 0,
-        remote: 0,
-        indicated: false,
-        repeating: false,
-        waking: false,
-    }
-}
-
-fn zero_ticks() -> Ticks
-    ensures { result ≡ zero_ticks }
-{
-    Ticks {
-        timeout: 0,
-        wait: 0,
-        repeat: 0,
-        cycle: 0,
-        offset: 0,
-        fast: 0,
-        remote: 0,
-        reset: 0,
-    }
-}
-
-fn zero_config() -> Config
-    ensures { result ≡ zero_config }
-{
-    let times = Times {
-        timeout: 0,
-        wait: 0,
-        repeat: 0,
-        cycle: 0,
-        offset: 0,
-        fast: 0,
-        remote: 0,
-        reset: 0,
-    };
-    let layout = Layout {
-        length: 0,
-        sni: 0,
-        cbv: 0,
-    };
-    let pn = Partial {
-        on: false,
-        start: 0,
-        length: 0,
-        awake: false,
-        masked: 0,
-        mask: [0; PDU_MOST],
-    };
-    Config {
-        period: 0,
-        times: times,
-        immediate: 0,
-        node: 0,
-        passive: false,
-        layout: layout,
-        pn: pn,
-    }
-}
-
+#[tactic(auto, unfolding(crate::specs::Channel::zero))]
 fn zero() -> Channel
     ensures { result ≡ zero }
 {
-    let mut m = fresh_mode();
-    m.sending = false;
-    channel_of(
-        zero_config(),
-        zero_ticks(),
-        m,
-        fresh_traffic(),
-        [0; Channel::BYTES],
-        [0; Channel::BYTES],
-        [0; Channel::TIMERS],
-        [0; Channel::TIMERS],
-    )
+    Channel {
+        own: Own {
+            config: Config::default(),
+            ticks: Times::default(),
+            mode: Mode {
+                sending: false,
+                ..fresh_mode()
+            },
+            traffic: Traffic::default(),
+            user: [0; Channel::BYTES],
+            requests: [0; Channel::BYTES],
+            era: [0; Channel::TIMERS],
+        },
+        eira: [0; Channel::TIMERS],
+    }
 }
 
 // ---- the channel
@@ -282,35 +141,53 @@ impl Channel {
     pub const UNSET: u8 = 0xFF;
 
     // The freshly initialised channel of a configuration and its times in ticks.
+    #[tactic(auto, unfolding(crate::specs::Channel::fresh))]
     pub fn fresh(c: Config, t: Ticks) -> Channel
         ensures { result ≡ fresh c t }
     {
-        channel_of(
-            c,
-            t,
-            fresh_mode(),
-            fresh_traffic(),
-            [Channel::UNSET; Channel::BYTES],
-            [0; Channel::BYTES],
-            [0; Channel::TIMERS],
-            [0; Channel::TIMERS],
+        Channel {
+            own: Own {
+                config: c,
+                ticks: t,
+                mode: fresh_mode(),
+                traffic: Traffic::default(),
+                user: [Channel::UNSET; Channel::BYTES],
+                requests: [0; Channel::BYTES],
+                era: [0; Channel::TIMERS],
+            },
+            eira: [0; Channel::TIMERS],
+        }
+    }
+
+    // Is its state sound?
+    #[tactic(auto, unfolding(crate::specs::Channel::sound))]
+    pub fn is_sound(&self) -> bool
+        ensures { result ≡ sound self.now }
+    {
+        soundness::sound(
+            self.own.config,
+            self.own.ticks,
+            self.own.mode,
+            self.own.traffic,
+            &self.own.era,
+            &self.eira,
         )
     }
 
     // A channel of a configuration, which is refused by the first rule that it breaks.
+    #[tactic(auto, unfolding(crate::specs::Channel::initialised))]
     pub fn initialise(c: Config) -> Started
         ensures { result ≡ initialised c }
     {
-        let rule = rules::first_broken_rule(c);
-        if rule == 0 {
-            return Started {
+        match rules::first_broken_rule(c) {
+            Ok(()) => Started {
                 channel: Channel::fresh(c, time_rules::ticks_for(c)),
-                answer: Answer::Done,
-            };
-        }
-        Started {
-            channel: zero(),
-            answer: Answer::Rule(rule),
+                answer: Ok(()),
+            },
+            Err(rule) => Started {
+                channel: zero(),
+                answer: Err(Refusal::from(rule)),
+            },
         }
     }
 }

@@ -24,13 +24,14 @@ pub struct Channel {
 // The notes of a call in the order raised: a call raises at most two, then EI and ER close it.
 #[derive(Clone, Copy)]
 pub struct Notes {
-    pub first: Note,
-    pub second: Note,
+    pub first: Option<Note>,
+    pub second: Option<Note>,
     pub eira: bool, // EI
     pub era: bool, // ER
 }
 
-// What a call gives: the channel after it, the answer, the notes, and whether a frame was sent.
+// What a call gives: the channel after it, the answer, the notes, and whether a frame was sent. Not a `Result`: a refusal
+// gives back the same channel (`refused`, specs/Channel).
 #[derive(Clone, Copy)]
 pub struct Reply {
     pub channel: Channel,
@@ -39,25 +40,24 @@ pub struct Reply {
     pub sent: bool,
 }
 
-// What a call gives of a channel whose tables and bytes it changes in place: the rest of the channel after it, and what
-// the reply says.
+// What a call tells besides the channel that it leaves.
 #[derive(Clone, Copy)]
-pub struct Effect {
-    pub mode: Mode,
-    pub traffic: Traffic,
+pub struct Told {
     pub answer: Answer,
     pub notes: Notes,
     pub sent: bool,
 }
 
-// What initialising gives: the channel and the answer.
+// What initialising gives: the channel and the answer. Not a `Result`: where a configuration is refused, a channel of zeros
+// stands beside the answer (`initialised`, specs/Channel).
 #[derive(Clone, Copy)]
 pub struct Started {
     pub channel: Channel,
     pub answer: Answer,
 }
 
-// What status gives: the state's number, both vectors, how many PNCs EIRA has and the lowest of them.
+// What status gives: the state's number, both vectors, how many PNCs EIRA has and the lowest of them. Not a `Result`:
+// refused, its values are 0 beside the answer (`unshown`, specs/Channel).
 #[derive(Clone, Copy)]
 pub struct Status {
     pub answer: Answer,

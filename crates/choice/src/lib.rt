@@ -4,21 +4,10 @@
 // Promises: each function is the library's operation of the same meaning. Leaves to others: what is chosen, and why.
 #![tactic(auto)]
 
-ghost use Rattle.std.specs.Prelude.{◌≡◌, min, ltb, cond};
+ghost use Rattle.std.specs.Prelude.{◌≡◌, ltb, cond};
 
-pub fn pick8(test: bool, a: u8, b: u8) -> u8
-    ensures { result ≡ cond test a b }
-{
-    if test { a } else { b }
-}
-
-pub fn pick16(test: bool, a: u16, b: u16) -> u16
-    ensures { result ≡ cond test a b }
-{
-    if test { a } else { b }
-}
-
-pub fn pick64(test: bool, a: u64, b: u64) -> u64
+// The first where the test holds, else the second.
+pub fn pick<T: Copy>(test: bool, a: T, b: T) -> T
     ensures { result ≡ cond test a b }
 {
     if test { a } else { b }
@@ -28,15 +17,5 @@ pub fn pick64(test: bool, a: u64, b: u64) -> u64
 pub fn narrow16(x: u64) -> u16
     ensures { result ≡ cond (ltb x 65536) x 0 }
 {
-    if x < 65536 {
-        return x as u16;
-    }
-    0
-}
-
-// The lesser of two sizes.
-pub fn lesser(a: usize, b: usize) -> usize
-    ensures { result ≡ min a b }
-{
-    if a < b { a } else { b }
+    u16::try_from(x).unwrap_or(0)
 }

@@ -7,7 +7,10 @@
 ghost use Rattle.std.specs.Prelude.{◌≡◌};
 ghost use Rattle.command_names.specs.CommandNames.{alone, tick_of, with_bytes};
 
-// A call with its argument; bytes stand in front of a lent buffer, so many of them.
+use names::Name;
+
+// A call with its argument; bytes stand in front of a lent buffer, so many of them. A count and no slice, which would hold
+// that buffer's loan in each definition of a command, while `reading` speaks of the buffer itself.
 #[derive(Clone, Copy)]
 pub enum Command {
     NetworkRequest,
@@ -24,62 +27,46 @@ pub enum Command {
     MainFunction(bool),
 }
 
-// What a line asks.
-#[derive(Clone, Copy)]
-pub enum Asked {
-    Unreadable,
-    Call(Command),
-}
-
 // The call of a name that stands alone.
-pub fn alone(name: usize) -> Asked
+pub fn alone(name: Option<Name>) -> Option<Command>
     ensures { result ≡ alone name }
 {
     match name {
-        names::REQ => Asked::Call(Command::NetworkRequest),
-        names::REL => Asked::Call(Command::NetworkRelease),
-        names::PAS => Asked::Call(Command::PassiveStartUp),
-        names::RMR => Asked::Call(Command::RepeatMessageRequest),
-        names::DIS => Asked::Call(Command::DisableCommunication),
-        names::ENA => Asked::Call(Command::EnableCommunication),
-        names::OK => Asked::Call(Command::TxConfirmation(true)),
-        names::BAD => Asked::Call(Command::TxConfirmation(false)),
-        names::PNA => Asked::Call(Command::ConfirmPnAvailability),
-        other => Asked::Unreadable,
+        Some(Name::Req) => Some(Command::NetworkRequest),
+        Some(Name::Rel) => Some(Command::NetworkRelease),
+        Some(Name::Pas) => Some(Command::PassiveStartUp),
+        Some(Name::Rmr) => Some(Command::RepeatMessageRequest),
+        Some(Name::Dis) => Some(Command::DisableCommunication),
+        Some(Name::Ena) => Some(Command::EnableCommunication),
+        Some(Name::Ok) => Some(Command::TxConfirmation(true)),
+        Some(Name::Bad) => Some(Command::TxConfirmation(false)),
+        Some(Name::Pna) => Some(Command::ConfirmPnAvailability),
+        Some(Name::Rx | Name::Ud | Name::Pnr | Name::T | Name::Cfg | Name::Pn) | None => None,
     }
 }
 
 // A tick by its argument: does the driver take a frame?
-pub fn tick_of(a: &[u8]) -> Asked
+pub fn tick_of(a: &[u8]) -> Option<Command>
     ensures { result ≡ tick_of a.now }
 {
-    if a.len() == 1 {
-        if a[0] == b'0' {
-            return Asked::Call(Command::MainFunction(false));
-        }
-        if a[0] == b'1' {
-            return Asked::Call(Command::MainFunction(true));
-        }
-        return Asked::Unreadable;
+    match a {
+        b"0" => Some(Command::MainFunction(false)),
+        b"1" => Some(Command::MainFunction(true)),
+        _ => None,
     }
-    Asked::Unreadable
 }
 
 // A call with so many bytes: at least one.
-pub fn with_bytes(name: usize, n: usize) -> Asked
+pub fn with_bytes(name: Option<Name>, n: usize) -> Option<Command>
     ensures { result ≡ with_bytes name n }
 {
     if n == 0 {
-        return Asked::Unreadable;
+        return None;
     }
-    if name == names::RX {
-        return Asked::Call(Command::RxIndication(n));
+    match name {
+        Some(Name::Rx) => Some(Command::RxIndication(n)),
+        Some(Name::Ud) => Some(Command::SetUserData(n)),
+        Some(Name::Pnr) => Some(Command::SetPnRequests(n)),
+        _ => None,
     }
-    if name == names::UD {
-        return Asked::Call(Command::SetUserData(n));
-    }
-    if name == names::PNR {
-        return Asked::Call(Command::SetPnRequests(n));
-    }
-    Asked::Unreadable
 }

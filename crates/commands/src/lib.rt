@@ -5,39 +5,38 @@
 #![tactic(auto)]
 
 ghost use Rattle.std.specs.Prelude.{◌≡◌};
-ghost use Rattle.text.specs.Filled.{filled};
-ghost use Rattle.commands.specs.Commands.{argued, hex_read, reading, read_as};
+ghost use Rattle.std.proofs.lemmas.List.Edits.{sets};
+ghost use Rattle.hex_bytes.specs.Hex.{hex_pairs};
+ghost use Rattle.commands.specs.Commands.{argued, hex_count, reading, read_as};
 
-use command_names::Asked;
+use command_names::Command;
+use names::Name;
 
-// The bytes of a text in hex; answers how many, 0 where it is not hex throughout.
-fn read_hex(a: &[u8], bytes: &mut [u8]) -> usize
-    ensures { filled result bytes.new ≡ hex_read a.now bytes.old }
+// The bytes of a text in hex; answers how many, if it is hex throughout.
+fn read_hex(a: &[u8], bytes: &mut [u8]) -> Option<usize>
+    ensures count { result ≡ hex_count a.now }
+    ensures stored { bytes.new ≡ sets bytes.old 0 (hex_pairs a.now) }
 {
     let n = hex_bytes::hex_pairs(a, bytes);
-    if 2 * n == a.len() {
-        return n;
-    }
-    0
+    (2 * n == a.len()).then_some(n)
 }
 
 // A name with its argument.
-fn argued(name: usize, a: &[u8], bytes: &mut [u8]) -> Asked
+fn argued(name: Option<Name>, a: &[u8], bytes: &mut [u8]) -> Option<Command>
     ensures { read_as result bytes.new ≡ argued name a.now bytes.old }
 {
-    if name == names::T {
-        return command_names::tick_of(a);
+    match name {
+        Some(Name::T) => command_names::tick_of(a),
+        _ => command_names::with_bytes(name, read_hex(a, bytes)?),
     }
-    let n = read_hex(a, bytes);
-    command_names::with_bytes(name, n)
 }
 
 // What a line asks; its bytes go in front of the buffer.
-pub fn read(l: &[u8], bytes: &mut [u8]) -> Asked
+pub fn read(l: &[u8], bytes: &mut [u8]) -> Option<Command>
     ensures { read_as result bytes.new ≡ reading l.now bytes.old }
 {
     if blocks::LINE_MOST < l.len() {
-        return Asked::Unreadable;
+        return None;
     }
     let end = fields::field_end(l, 0);
     if end < l.len() {

@@ -1,6 +1,6 @@
 -- The conditions of a sound state on its timers, flags and bits, but those of the PN timers. Assumes nothing.
 use Rattle.std.specs.Prelude.{ℕ, Bool, cond, not, ◌&&◌, ◌||◌, leb, ltb, eqb}
-use Rattle.config.specs.declared.Ticks.{Ticks}
+use Rattle.config.specs.Times.{Ticks}
 use Rattle.states.specs.declared.State.{State}
 use Rattle.states.specs.declared.Mode.{Mode}
 use Rattle.states.specs.declared.Traffic.{Traffic}

@@ -8,18 +8,18 @@ ghost use Rattle.std.specs.Prelude.{◌≡◌};
 ghost use Rattle.conditions.specs.Conditions.{larger, mode_sound, only, passive_sound, request_fits, runs, traffic_sound};
 
 use config::Ticks;
-use states::{
-    Mode, State, Traffic, in_network, is_normal, is_prepare, is_repeat, settled, transmits,
-};
+use states::{Mode, State, Traffic, in_network, settled, transmits};
 use traffic::Setup;
 
+// Does a timer run, from 1 to its limit, exactly where it should?
 fn runs(running: bool, limit: u16, n: u16) -> bool
     ensures { result ≡ runs running limit n }
 {
     if running {
-        return (1 <= n) & (n <= limit);
+        (1..=limit).contains(&n)
+    } else {
+        n == 0
     }
-    n == 0
 }
 
 // Does the flag of a request fit the state?
@@ -27,26 +27,22 @@ fn request_fits(requested: bool, s: State) -> bool
     ensures { result ≡ request_fits requested s }
 {
     if requested {
-        return is_repeat(s) | is_normal(s);
+        matches!(s, State::RepeatMessage | State::NormalOperation)
+    } else {
+        s != State::NormalOperation
     }
-    !is_normal(s)
 }
 
+#[tactic(auto, unfolding(crate::specs::Conditions::mode_sound))]
 pub fn mode_sound(t: Ticks, m: Mode) -> bool
     ensures { result ≡ mode_sound t m }
 {
     let s = m.state;
     runs(in_network(s), t.timeout, m.nm)
-        & runs(is_prepare(s), t.wait, m.wait)
-        & runs(is_repeat(s), t.repeat, m.repeat)
+        & runs(s == State::PrepareBusSleep, t.wait, m.wait)
+        & runs(s == State::RepeatMessage, t.repeat, m.repeat)
         & request_fits(m.requested, s)
         & (m.sending | in_network(s))
-}
-
-fn larger(a: u16, b: u16) -> u16
-    ensures { result ≡ larger a b }
-{
-    choice::pick16(a < b, b, a)
 }
 
 // A flag that is set only where a test holds.
@@ -56,30 +52,35 @@ fn only(flag: bool, test: bool) -> bool
     !flag | test
 }
 
+// The most that the message timer may hold.
+fn message_limit(s: Setup) -> u16
+    ensures { result ≡ larger s.ticks.cycle s.ticks.fast }
+{
+    s.ticks.cycle.max(s.ticks.fast)
+}
+
+#[tactic(auto, unfolding(crate::specs::Conditions::traffic_sound))]
 pub fn traffic_sound(s: Setup, m: State, x: Traffic) -> bool
     ensures { result ≡ traffic_sound s m x }
 {
-    runs(
-        transmits(m) & !s.passive,
-        larger(s.ticks.cycle, s.ticks.fast),
-        x.message,
-    ) & (x.fast <= choice::pick16(is_repeat(m), s.immediate, 0))
-        & runs(
-            is_normal(m) & (0 < s.ticks.remote) & !x.indicated,
-            s.ticks.remote,
-            x.remote,
-        )
-        & only(x.repeating, is_repeat(m))
+    let repeat = m == State::RepeatMessage;
+    let normal = m == State::NormalOperation;
+    let watched = 0 < s.ticks.remote;
+    runs(transmits(m) & !s.passive, message_limit(s), x.message)
+        & (x.fast <= choice::pick(repeat, s.immediate, 0))
+        & runs(normal & watched & !x.indicated, s.ticks.remote, x.remote)
+        & only(x.repeating, repeat)
         & only(x.waking, in_network(m))
-        & only(x.indicated, settled(m) & (0 < s.ticks.remote))
+        & only(x.indicated, settled(m) & watched)
 }
 
+#[tactic(auto, unfolding(crate::specs::Conditions::passive_sound))]
 pub fn passive_sound(passive: bool, m: Mode, x: Traffic) -> bool
     ensures { result ≡ passive_sound passive m x }
 {
-    let s = m.state;
+    let normal = m.state == State::NormalOperation;
     only(
         passive,
-        !m.requested & m.sending & !x.indicated & !is_normal(s) & !x.repeating & !x.waking,
+        !m.requested & m.sending & !x.indicated & !normal & !x.repeating & !x.waking,
     )
 }

@@ -7,6 +7,7 @@
 ghost use Rattle.std.specs.Prelude.{◌≡◌, ◌-◌};
 ghost use Rattle.config.specs.Bounds.{within};
 ghost use Rattle.config.specs.Ranges.{bytes_of, header_length, user_start_of, user_length_of};
+ghost use Rattle.config.specs.Times.{MapsTo, each};
 
 // ---- sizes
 
@@ -21,46 +22,75 @@ pub const PNC_MOST: usize = 8 * PN_MOST;
 
 // ---- the fields
 
-// The times of a channel in milliseconds (AUTOSAR's parameter, document 01's letter).
-#[derive(Clone, Copy)]
-pub struct Times {
-    pub timeout: u64, // CanNmTimeoutTime, T
-    pub wait: u64, // CanNmWaitBusSleepTime, W
-    pub repeat: u64, // CanNmRepeatMessageTime, R
-    pub cycle: u64, // CanNmMsgCycleTime, C
-    pub offset: u64, // CanNmMsgCycleOffset, O
-    pub fast: u64, // CanNmImmediateNmCycleTime, IC
-    pub remote: u64, // CanNmRemoteSleepIndTime, RS
-    pub reset: u64, // CanNmPnResetTime, P
+// The times of a channel (AUTOSAR's parameter, document 01's letter).
+#[derive(Clone, Copy, Default)]
+pub struct Times<T> {
+    pub timeout: T, // CanNmTimeoutTime, T
+    pub wait: T, // CanNmWaitBusSleepTime, W
+    pub repeat: T, // CanNmRepeatMessageTime, R
+    pub cycle: T, // CanNmMsgCycleTime, C
+    pub offset: T, // CanNmMsgCycleOffset, O
+    pub fast: T, // CanNmImmediateNmCycleTime, IC
+    pub remote: T, // CanNmRemoteSleepIndTime, RS
+    pub reset: T, // CanNmPnResetTime, P
 }
+
+impl<T: Copy> Times<T> {
+    // The times in the order of their rows in the table of bounds, from `TIMEOUT` on.
+    pub fn each(self) -> [T; 8]
+        ensures { result ≡ each self }
+    {
+        [
+            self.timeout,
+            self.wait,
+            self.repeat,
+            self.cycle,
+            self.offset,
+            self.fast,
+            self.remote,
+            self.reset,
+        ]
+    }
+
+    // The times that a function makes of these.
+    pub fn map<U, F: Fn(T) -> U>(self, f: F) -> Times<U>
+        requires { F.IsAlwaysCallable f }
+        ensures { MapsTo (F.post f) self result }
+    {
+        Times {
+            timeout: f(self.timeout),
+            wait: f(self.wait),
+            repeat: f(self.repeat),
+            cycle: f(self.cycle),
+            offset: f(self.offset),
+            fast: f(self.fast),
+            remote: f(self.remote),
+            reset: f(self.reset),
+        }
+    }
+}
+
+// The times as they are configured.
+pub type Milliseconds = Times<u64>;
 
 // The same times in ticks of the main function.
-#[derive(Clone, Copy)]
-pub struct Ticks {
-    pub timeout: u16,
-    pub wait: u16,
-    pub repeat: u16,
-    pub cycle: u16,
-    pub offset: u16,
-    pub fast: u16,
-    pub remote: u16,
-    pub reset: u16,
-}
+pub type Ticks = Times<u16>;
 
 // The header of the PDU: its length L and the bytes of the source node id and of the control bit vector.
-#[derive(Clone, Copy)]
+#[derive(Clone, Copy, Default)]
 pub struct Layout {
     pub length: u64,
     pub sni: u64,
     pub cbv: u64,
 }
 
-// The position of a header field that is off.
+// The position of a header field that is off. No `Option`: any number that a host hands over, from C too, has to reach the rules.
 pub const OFF: u64 = 255;
 
 // Partial networking: the PN range of `length` bytes (N) from byte `start` (F) on, and the filter mask with the
-// number of bytes that it was given.
-#[derive(Clone, Copy)]
+// number of bytes that it was given. No `Option` of the rest, since a rule judges it where it is off, too; and no slice for the
+// mask: memory is fixed, and any number of bytes has to reach that rule.
+#[derive(Clone, Copy, Default)]
 pub struct Partial {
     pub on: bool,
     pub start: u64,
@@ -70,10 +100,10 @@ pub struct Partial {
     pub mask: [u8; PDU_MOST],
 }
 
-#[derive(Clone, Copy)]
+#[derive(Clone, Copy, Default)]
 pub struct Config {
     pub period: u64, // CanNmMainFunctionPeriod, M
-    pub times: Times,
+    pub times: Milliseconds,
     pub immediate: u64, // CanNmImmediateNmTransmissions, IN: document 01's fast count starts here
     pub node: u64, // CanNmNodeId
     pub passive: bool, // CanNmPassiveModeEnabled
@@ -87,7 +117,7 @@ pub struct Config {
 #[derive(Clone, Copy)]
 pub struct Bounds(pub u64, pub u64);
 
-// The fields by their row in the table of bounds.
+// The fields by their row in the table of bounds. No enum: `in_bounds` answers for every number.
 pub const PERIOD: usize = 0;
 
 pub const TIMEOUT: usize = 1;
@@ -128,14 +158,13 @@ pub const BOUNDS: [Bounds; 12] = [
 ];
 
 // Does a value stand within the bounds of its field? No value does where there is no such field.
+#[tactic(auto, unfolding(crate::specs::Bounds::within))]
 pub fn in_bounds(field: usize, value: u64) -> bool
     ensures { result ≡ within field value }
 {
-    if field < BOUNDS.len() {
-        let b = BOUNDS[field];
-        return (b.0 <= value) & (value <= b.1);
-    }
-    false
+    BOUNDS
+        .get(field)
+        .is_some_and(|b| b.0 <= value && value <= b.1)
 }
 
 // ---- byte ranges of the PDU
@@ -144,34 +173,37 @@ pub fn in_bounds(field: usize, value: u64) -> bool
 fn bytes_of(position: u64) -> u64
     ensures { result ≡ bytes_of position }
 {
-    choice::pick64(position == OFF, 0, 1)
+    choice::pick(position == OFF, 0, 1)
 }
 
 // The length of the header, H.
+#[tactic(auto, using(crate::proofs::Ranges::bytes_small), unfolding(crate::specs::Ranges::header_length))]
 pub fn header_length(l: Layout) -> u64
     ensures { result ≡ header_length l }
 {
     bytes_of(l.sni) + bytes_of(l.cbv)
 }
 
-// What is left of `a` when `b` is taken away, 0 where there is not so much.
-fn less(a: u64, b: u64) -> u64
-    ensures { result ≡ a - b }
-{
-    if b <= a { a - b } else { 0 }
-}
-
 // The number of user bytes.
+#[tactic(auto, unfolding(crate::specs::Ranges::user_length_of, crate::specs::Ranges::user_length))]
 pub fn user_length(c: Config) -> u64
     ensures { result ≡ user_length_of c }
 {
-    less(less(c.layout.length, header_length(c.layout)), c.pn.length)
+    c.layout
+        .length
+        .saturating_sub(header_length(c.layout))
+        .saturating_sub(c.pn.length)
 }
 
 // The first user byte.
+#[tactic(auto, unfolding(crate::specs::Ranges::user_start_of, crate::specs::Ranges::user_start, crate::specs::Ranges::user_length_of))]
 pub fn user_start(c: Config) -> u64
     ensures { result ≡ user_start_of c }
 {
     let h = header_length(c.layout);
-    choice::pick64(c.pn.start == h, less(c.layout.length, user_length(c)), h)
+    if c.pn.start == h {
+        c.layout.length.saturating_sub(user_length(c))
+    } else {
+        h
+    }
 }

@@ -3,12 +3,13 @@ use Rattle.std.specs.Prelude.{ℕ, Bool, false, cond, ◌&&◌, ◌||◌, List, 
 use Rattle.config.specs.Ranges.{off}
 use Rattle.config.specs.declared.Config.{Config}
 use Rattle.fields.specs.Numbers.{dash_number, tokens_of}
-use Rattle.settings.specs.declared.Setting.{Setting}
-use Rattle.settings.specs.Settings.{all_numbers, cfg_fields, is_flag, is_line, is_number, table_of}
+use Rattle.names.specs.declared.Name.{Name}
+use Rattle.names.specs.declared.Name.TheVariants.{Cfg}
+use Rattle.settings.specs.Settings.{Setting, all_numbers, cfg_fields, is_flag, is_line, is_number, table_of}
 
 -- CFG among the names
-abbrev pub cfg_name : ℕ
-cfg_name = 13
+abbrev pub cfg_name : Name
+cfg_name = Cfg
 
 abbrev pub is_position : ℕ → Bool
 is_position x = ltb x 2 || eqb x dash_number

@@ -5,11 +5,12 @@
 // configuration (`rules`).
 #![tactic(auto)]
 
-ghost use Rattle.std.specs.Prelude.{◌≡◌};
+ghost use Rattle.std.specs.Prelude.{◌≡◌, []};
+ghost use Rattle.settings.specs.Settings.{given};
 ghost use Rattle.config_line.specs.ConfigLine.{config_of, config_reads, is_position, position_of, read_config};
 
 use config::{Config, Layout, PDU_MOST, Partial, Times};
-use settings::Setting;
+use names::Name;
 
 // The byte of a header field: 0, 1 or a dash.
 fn is_position(x: u64) -> bool
@@ -22,7 +23,7 @@ fn is_position(x: u64) -> bool
 fn position_of(x: u64) -> u64
     ensures { result ≡ position_of x }
 {
-    choice::pick64(x == fields::DASH, config::OFF, x)
+    choice::pick(x == fields::DASH, config::OFF, x)
 }
 
 fn config_reads(t: &[u64; settings::CFG_FIELDS]) -> bool
@@ -72,14 +73,22 @@ fn config_of(t: &[u64; settings::CFG_FIELDS]) -> Config
     }
 }
 
-// What line 1 says.
-pub fn read_config(l: &[u8]) -> Setting
-    ensures { result ≡ read_config l.now }
+// The configuration that line 1 gives.
+pub fn read_config(l: &[u8]) -> Option<Config>
+    ensures { result ≡ given (read_config l.now) }
 {
     let mut t = [0u64; settings::CFG_FIELDS];
     let n = fields::tokens(l, &mut t);
-    Setting {
-        readable: settings::is_line(l, names::CFG, settings::CFG_FIELDS, n) & config_reads(&t),
-        config: config_of(&t),
+    if settings::is_line(l, Name::Cfg, settings::CFG_FIELDS, n) & config_reads(&t) {
+        Some(config_of(&t))
+    } else {
+        None
     }
+}
+
+// The configuration that stands in a run before line 1: all of it 0, and PN off.
+pub fn blank() -> Config
+    ensures { result ≡ (read_config []).config }
+{
+    config_of(&[0; settings::CFG_FIELDS])
 }

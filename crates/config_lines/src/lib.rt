@@ -5,14 +5,16 @@
 // the configuration (`channel`), and whether line 2 is a PN line (`trace_line`).
 #![tactic(auto)]
 
-ghost use Rattle.std.specs.Prelude.{◌≡◌, ◌+◌, ◌≤◌, length};
-ghost use Rattle.runs.specs.Runs.{Gives};
+ghost use Rattle.std.specs.Prelude.{◌≡◌};
+ghost use Rattle.print.specs.Print.{HasRoom};
+ghost use Rattle.runs.specs.Runs.{Prints};
 ghost use Rattle.config_lines.specs.ConfigLines.{begun, broken, first_line, holding, judged_phase, partial_line};
 ghost use Rattle.report.specs.Report.{report_most};
 
 use channel::state::Channel;
 use config::Config;
-use runs::{Phase, Run, Step};
+use print::Writer;
+use runs::{Phase, Run};
 
 // ---- runs
 
@@ -20,6 +22,7 @@ use runs::{Phase, Run, Step};
 pub const FIRST_NUMBER: u64 = 1;
 
 // A run behind so many lines that holds a configuration, which is not judged yet.
+#[tactic(auto, unfolding(crate::specs::ConfigLines::holding))]
 pub fn holding(phase: Phase, lines: u64, c: Config) -> Run
     ensures { result ≡ holding phase lines c }
 {
@@ -40,69 +43,51 @@ fn judged_phase(done: bool) -> Phase
 // ---- lines
 
 // A line of the configuration that can't be read ends the run. There must be room for its own.
-fn broken(run: Run, out: &mut [u8], at: usize) -> Step
-    requires { at + report_most ≤ length out.old }
-    ensures { Gives (broken run) out.old at out.new result }
+#[tactic(auto, unfolding(crate::specs::ConfigLines::broken))]
+fn broken(run: Run, w: &mut Writer) -> Run
+    requires { HasRoom w.old report_most }
+    ensures { Prints (broken run) w.old result w.new }
 {
-    let p = runs::put_bare(
-        out,
-        at,
-        runs::counted(run.lines),
-        runs::UNREADABLE_DIGIT,
-        print::DASH,
-    );
-    Step {
-        run: runs::passed(run, Phase::Ended),
-        at: p,
-    }
+    let n = runs::counted(run.lines);
+    runs::put_bare(w, n, runs::UNREADABLE_DIGIT, print::DASH);
+    runs::passed(run, Phase::Ended)
 }
 
 // The configuration is judged, which prints line 1; n lines came before the next. There must be room for a line.
-pub fn begin(c: Config, n: u64, out: &mut [u8], at: usize) -> Step
-    requires { at + report_most ≤ length out.old }
-    ensures { Gives (begun c n) out.old at out.new result }
+pub fn begin(c: Config, n: u64, w: &mut Writer) -> Run
+    requires { HasRoom w.old report_most }
+    ensures { Prints (begun c n) w.old result w.new }
 {
     let s = Channel::initialise(c);
-    let answer = s.answer;
-    let mode = s.channel.own.mode;
-    let state = mode.state;
-    let done = refusals::is_done(answer);
-    let letter = choice::pick8(done, report::letter(state), print::DASH);
-    let p = runs::put_bare(out, at, FIRST_NUMBER, runs::digit(answer), letter);
-    let channel = s.channel;
-    Step {
-        run: Run {
-            phase: judged_phase(done),
-            lines: n,
-            channel: channel,
-        },
-        at: p,
+    let done = s.answer.is_ok();
+    let state = s.channel.own.mode.state;
+    let letter = choice::pick(done, report::letter(state), print::DASH);
+    runs::put_bare(w, FIRST_NUMBER, runs::digit(s.answer), letter);
+    Run {
+        phase: judged_phase(done),
+        lines: n,
+        channel: s.channel,
     }
 }
 
 // Line 1. There must be room for a line.
-pub fn first_line(run: Run, l: &[u8], out: &mut [u8], at: usize) -> Step
-    requires { at + report_most ≤ length out.old }
-    ensures { Gives (first_line run l.now) out.old at out.new result }
+pub fn first_line(run: Run, l: &[u8], w: &mut Writer) -> Run
+    requires { HasRoom w.old report_most }
+    ensures { Prints (first_line run l.now) w.old result w.new }
 {
-    let s = config_line::read_config(l);
-    if s.readable {
-        return Step {
-            run: holding(Phase::Second, runs::counted(run.lines), s.config),
-            at: at,
-        };
+    match config_line::read_config(l) {
+        Some(c) => holding(Phase::Second, runs::counted(run.lines), c),
+        None => broken(run, w),
     }
-    broken(run, out, at)
 }
 
 // A PN line. There must be room for a line.
-pub fn partial_line(run: Run, l: &[u8], out: &mut [u8], at: usize) -> Step
-    requires { at + report_most ≤ length out.old }
-    ensures { Gives (partial_line run l.now) out.old at out.new result }
+pub fn partial_line(run: Run, l: &[u8], w: &mut Writer) -> Run
+    requires { HasRoom w.old report_most }
+    ensures { Prints (partial_line run l.now) w.old result w.new }
 {
-    let s = pn_line::read_partial(run.channel.own.config, l);
-    if s.readable {
-        return begin(s.config, runs::counted(run.lines), out, at);
+    match pn_line::read_partial(run.channel.own.config, l) {
+        Some(c) => begin(c, runs::counted(run.lines), w),
+        None => broken(run, w),
     }
-    broken(run, out, at)
 }

@@ -1,4 +1,4 @@
--- A run of equal entries of a table, and a key that is none of those before. Assumes nothing.
+-- A run of equal entries of a table. Assumes nothing.
 use mathlib.Core.Path.{◌≡◌, sym, ◌∙◌}
 use mathlib.Core.List.{List}
 use Prim.Native.Nat.{ℕ, ◌+◌, ◌-◌, ◌<◌, ◌≤◌}
@@ -11,7 +11,3 @@ pub run_at : {A : Type 0} (t : List A) (r d : A) (i n k : ℕ) → take n (drop 
 run_at t r d i n k e h w =
     let q : i + (k - i) ≡ k = omega arith in
     rw q at (sym (get_or-take n (drop i t) (k - i) d (omega arith) ∙ get_or-drop i t (k - i) d)) ∙ rw e (get_or-replicate n (k - i) r d (omega arith))
-
--- a key that is at least k and not k
-pub next : {k key : ℕ} → k ≤ key → (key ≡ k → ⊥) → k + 1 ≤ key
-next h n = omega arith

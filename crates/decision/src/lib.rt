@@ -10,7 +10,7 @@ ghost use Rattle.decision.specs.Decision.{is_not_here, rule_at, rule_of};
 
 use states::State;
 
-// The calls by their number.
+// The calls by their number: no enum, since the decision is over state and call numbers, each case naming one rule.
 pub const NETWORK_REQUEST: u8 = 0;
 
 pub const NETWORK_RELEASE: u8 = 1;
@@ -38,7 +38,7 @@ pub const STATUS: u8 = 11;
 pub const MAIN_FUNCTION: u8 = 12;
 
 // The transition rules.
-#[derive(Clone, Copy)]
+#[derive(Clone, Copy, PartialEq, Eq)]
 pub enum Rule {
     // The state and its timers stay.
     Keep,
@@ -75,6 +75,7 @@ pub enum Rule {
 }
 
 // The rule of state and call: five keys for each call, one for each state.
+#[tactic(auto, unfolding(crate::specs::Decision::rule_at, crate::specs::Decision::table))]
 pub fn rule_at(key: u8) -> Rule
     ensures { result ≡ rule_at key }
 {
@@ -131,39 +132,18 @@ pub fn rule_at(key: u8) -> Rule
 pub fn is_not_here(rule: Rule) -> bool
     ensures { result ≡ is_not_here rule }
 {
-    match rule {
-        Rule::Keep => false,
-        Rule::NotHere => true,
-        Rule::WakeUp => false,
-        Rule::ActiveWakeUp => false,
-        Rule::Request => false,
-        Rule::ToNormal => false,
-        Rule::Release => false,
-        Rule::ToReady => false,
-        Rule::Repeat => false,
-        Rule::Disable => false,
-        Rule::Enable => false,
-        Rule::Confirm => false,
-        Rule::Start => false,
-        Rule::HeardInRepeat => false,
-        Rule::HeardInNormal => false,
-        Rule::HeardInReady => false,
-        Rule::FilterOn => false,
-        Rule::TickInPrepare => false,
-        Rule::TickInRepeat => false,
-        Rule::TickInNormal => false,
-        Rule::TickInReady => false,
-    }
+    rule == Rule::NotHere
 }
 
 // The rule of a call in a state.
 pub fn rule_of(s: State, call: u8) -> Rule
     ensures { result ≡ rule_of s call }
 {
-    if call < 13 {
-        return rule_at(5 * call + states::state_number(s));
+    if call <= MAIN_FUNCTION {
+        rule_at(5 * call + states::state_number(s))
+    } else {
+        Rule::Keep
     }
-    Rule::Keep
 }
 
 // The rule, or none where the call is not heeded.

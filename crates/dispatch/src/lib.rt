@@ -11,7 +11,8 @@ ghost use Rattle.dispatch.specs.Calls.{call_for, carried_out_by};
 use channel::state::{Channel, Reply};
 use command_names::Command;
 
-// A call with its argument: its bytes stand in front of the lent ones, and a frame goes into the lent frame.
+// A call with its argument: its bytes stand in front of the lent ones, and a frame goes into the lent frame. A `match`, since
+// each call takes other arguments, which the command holds: closures would hide which call has which.
 pub fn carry_out(ch: Channel, k: Command, bytes: &[u8], frame: &mut [u8]) -> Reply
     ensures { ticked result frame.new ≡ carried_out_by ch (call_for k bytes.now (length frame.old)) frame.old }
 {

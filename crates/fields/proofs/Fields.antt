@@ -1,50 +1,16 @@
--- Laws of the fields of a line, for every place in it. Assumes nothing.
-use mathlib.Core.Path.{◌≡◌, refl, ap, ◌∙◌}
+-- Laws of the fields of a line. Assumes nothing.
+use mathlib.Core.Path.{◌≡◌, refl}
 use mathlib.Core.Bool.{Bool, true, false, cond}
 use mathlib.Core.List.{List, [], ◌∷◌}
-use Prim.Native.Nat.{ℕ, zero, suc, ◌+◌, ◌-◌, ◌≤◌, ◌<◌}
+use Prim.Native.Nat.{ℕ, suc, ◌+◌, ◌≤◌, ◌<◌}
 use native.Mathlib.Omega.{arith}
-use lib.Dec.{eqb, leb-suc-suc}
-use lib.ListN.{length, take, drop, length-drop}
-use lib.Seq.{drop-drop}
-use borrow.Author.Tests.{le-leb, lt-leb}
-use Rattle.choice.proofs.Tests.{same_leb}
-use Rattle.text.specs.Lines.{before, until}
-use Rattle.fields.specs.Fields.{fields_of, fields_from, tab}
-
-fields_by : (x : ℕ) (xs : List ℕ) (t : Bool) → fields_of xs ≡ take (until tab xs) xs ∷ fields_from xs (suc (until tab xs))
-    → cond t ([] ∷ fields_of xs) (before x (fields_of xs))
-    ≡ take (cond t zero (suc (until tab xs))) (x ∷ xs) ∷ fields_from (x ∷ xs) (suc (cond t zero (suc (until tab xs))))
-unfolding fields_of fields_from until
-fields_by x xs true ih = rw (le-leb 1 (suc (length xs)) (omega arith))
-fields_by x xs false ih = ap (before x) ih ∙ rw leb-suc-suc
-
--- the fields of a line: the first, and those behind its tab, if there is one
-fields_step : (s : List ℕ) → fields_of s ≡ take (until tab s) s ∷ fields_from s (suc (until tab s))
-unfolding fields_of fields_from until
-fields_step [] = refl
-fields_step (x ∷ xs) = fields_by x xs (eqb x tab) (fields_step xs)
-
--- the fields from the start on are all
-pub fields_start : (s : List ℕ) → fields_of s ≡ fields_from s 0
-unfolding fields_from
-fields_start s = rw (le-leb 0 (length s) (omega arith))
-
-module _ (s : List ℕ) (at : ℕ) where
-  -- past the end there is no field
-  pub fields_end : length s < at → fields_from s at ≡ []
-  unfolding fields_from
-  fields_end h = rw (lt-leb at (length s) h)
-
-  -- the field at a place, and those behind it
-  pub fields_at : (e : ℕ) → at ≤ length s → e ≡ at + until tab (drop at s) → fields_from s at ≡ take (e - at) (drop at s) ∷ fields_from s (e + 1)
-  unfolding fields_from
-  fields_at e h i =
-      let n = until tab (drop at s) in
-      let a : e - at ≡ n = omega arith in
-      let b : e + 1 ≡ at + suc n = omega arith in
-      let d : length (drop at s) ≡ length s - at = length-drop at s in
-      rw (le-leb at (length s) h, fields_step (drop at s), a, b, drop-drop (suc n) at s, same_leb (suc n) (length (drop at s)) (at + suc n) (length s) (λ x. omega arith) (λ x. omega arith))
+use native.Mathlib.Numerals.{add-one}
+use lib.Dec.{eqb}
+use lib.ListN.{length, drop, get_or, drop_of_length-le}
+use lib.Seq.{drop-cons}
+use Rattle.std.specs.List.{slice_split, onto_first}
+use Rattle.text.specs.Lines.{before}
+use Rattle.fields.specs.Fields.{fields_of, tab}
 
 before_length : (x : ℕ) (ls : List (List ℕ)) → length (before x ls) ≤ 1 + length ls
 before_length x [] = omega arith
@@ -59,3 +25,29 @@ fields_short (x ∷ xs) = by_byte (eqb x tab) (fields_short xs)
     by_byte : (t : Bool) → length (fields_of xs) ≤ 1 + length xs → length (cond t ([] ∷ fields_of xs) (before x (fields_of xs))) ≤ 1 + suc (length xs)
     by_byte true h = omega arith
     by_byte false h = omega (arith, before_length x (fields_of xs))
+
+-- the fields of a line are the parts that `split` gives
+fields_split : (s : List ℕ) → slice_split (λ b. eqb b tab) s ≡ fields_of s
+unfolding fields_of
+fields_split [] = refl
+fields_split (x ∷ xs) = rw (fields_split xs, onto x (fields_of xs)) refl
+  where
+    onto : (x : ℕ) (ls : List (List ℕ)) → onto_first x ls ≡ before x ls
+    onto x [] = refl
+    onto x (l ∷ ls) = refl
+
+module _ (s : List ℕ) (n : ℕ) where
+  -- the field that comes next, and what is left behind it
+  pub field_next : {f : List ℕ} → (n < length (slice_split (λ b. eqb b tab) s)) × (f ≡ get_or (slice_split (λ b. eqb b tab) s) n f)
+      → drop n (fields_of s) ≡ f ∷ drop (n + 1) (fields_of s)
+  field_next {f} h =
+      let e : n < length (fields_of s) = rw (fields_split s) at h.0 in
+      let g : f ≡ get_or (fields_of s) n f = rw (fields_split s) at h.1 in
+      rw (add-one, drop-cons (fields_of s) n f, ← g) refl
+
+  -- behind the last none is left
+  pub field_last : n ≡ length (slice_split (λ b. eqb b tab) s) → drop n (fields_of s) ≡ []
+  field_last h = let e : n ≡ length (fields_of s) = rw (fields_split s) at h in drop_of_length-le (fields_of s) (omega arith)
+
+  pub field_count : n < length (slice_split (λ b. eqb b tab) s) → n ≤ length s
+  field_count h = let e : n < length (fields_of s) = rw (fields_split s) at h in omega (arith, fields_short s)

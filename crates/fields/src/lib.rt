@@ -5,7 +5,7 @@
 // (`text`), fields that are names (`names`) or bytes (`hex`), and which fields a line must have.
 #![tactic(auto)]
 
-ghost use Rattle.std.specs.Prelude.{◌≡◌, ◌+◌, ◌≤◌, length, drop, set};
+ghost use Rattle.std.specs.Prelude.{◌≡◌, ◌+◌, ◌≤◌, length, drop};
 ghost use Rattle.text.specs.Filled.{filled, fill};
 ghost use Rattle.text.specs.Lines.{until};
 ghost use Rattle.fields.specs.Fields.{tab};
@@ -18,7 +18,7 @@ pub const TAB: u8 = b'\t';
 const DIGITS_MOST: usize = 10;
 
 // What a field reads as that is a single '-', and what one reads as that is neither that nor a number. No number of
-// ten digits is so large.
+// ten digits is so large. Numbers, since `config_in` of `trace_claims` gives a configuration for any fields, these too.
 pub const DASH: u64 = 10000000000;
 
 pub const UNREADABLE: u64 = 10000000001;
@@ -34,48 +34,30 @@ pub fn field_end(s: &[u8], at: usize) -> usize
 
 // ---- numbers
 
-fn wide(b: u8) -> u64
-    ensures { result ≡ b }
-{
-    b as u64
-}
-
-// The number that digits make. More of them than a number may have would not fit.
-fn digits(s: &[u8]) -> u64
+// The number that digits make, if all bytes are digits. More of them than a number may have would not fit.
+fn digits(s: &[u8]) -> Option<u64>
     requires { length s.now ≤ field_digits_most }
     ensures { result ≡ number_from 0 s.now }
 {
     let mut n: u64 = 0;
-    let mut i = 0;
-    while i < s.len() {
-        let d = s[i];
-        if d < b'0' {
-            return UNREADABLE;
+    for &d in s {
+        if d < b'0' || b'9' < d {
+            return None;
         }
-        if b'9' < d {
-            return UNREADABLE;
-        }
-        n = n * 10 + wide(d - b'0');
-        i += 1;
+        n = n * 10 + u64::from(d - b'0');
     }
-    n
+    Some(n)
 }
 
 // A number in decimal: 1 to 10 digits, without leading zeros.
-pub fn decimal(s: &[u8]) -> u64
+pub fn decimal(s: &[u8]) -> Option<u64>
     ensures { result ≡ decimal_of s.now }
 {
-    if s.len() == 0 {
-        return UNREADABLE;
+    if s.len() == 0 || DIGITS_MOST < s.len() {
+        return None;
     }
-    if DIGITS_MOST < s.len() {
-        return UNREADABLE;
-    }
-    if 1 < s.len() {
-        if s[0] == b'0' {
-            return UNREADABLE;
-        }
-        return digits(s);
+    if 1 < s.len() && s[0] == b'0' {
+        return None;
     }
     digits(s)
 }
@@ -84,21 +66,9 @@ pub fn decimal(s: &[u8]) -> u64
 pub fn token(f: &[u8]) -> u64
     ensures { result ≡ token_of f.now }
 {
-    if f.len() == 1 {
-        if f[0] == b'-' {
-            return DASH;
-        }
-        return decimal(f);
-    }
-    decimal(f)
-}
-
-// One number; past the end nothing is written.
-fn put_number(out: &mut [u64], at: usize, n: u64)
-    ensures { out.new ≡ set out.old at n }
-{
-    if at < out.len() {
-        out[at] = n;
+    match f {
+        b"-" => DASH,
+        _ => decimal(f).unwrap_or(UNREADABLE),
     }
 }
 
@@ -106,13 +76,10 @@ fn put_number(out: &mut [u64], at: usize, n: u64)
 pub fn tokens(line: &[u8], out: &mut [u64]) -> usize
     ensures { filled result out.new ≡ fill out.old (tokens_of line.now) }
 {
-    let mut at = 0;
     let mut k = 0;
-    while at <= line.len() {
-        let end = field_end(line, at);
-        put_number(out, k, token(&line[at..end]));
+    for field in line.split(|b| *b == TAB) {
+        slices::put(out, k, token(field));
         k += 1;
-        at = end + 1;
     }
     k
 }

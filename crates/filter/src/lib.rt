@@ -7,15 +7,7 @@
 ghost use Rattle.std.specs.Prelude.{◌≡◌};
 ghost use Rattle.filter.specs.Filter.{informs, keeps, verdict_answer, verdict_of, verdict_value};
 
-use answers::Answer;
-
-#[derive(Clone, Copy)]
-pub enum Verdict {
-    Kept,
-    Dropped,
-    // PN bytes and mask are not of one length.
-    Unequal,
-}
+use answers::{Answer, Refusal};
 
 // Is the partial network information bit set?
 pub fn informs(cbv: u32) -> bool
@@ -25,43 +17,38 @@ pub fn informs(cbv: u32) -> bool
 }
 
 // Is a PDU kept by the filter?
+#[tactic(auto, unfolding(crate::specs::Filter::keeps))]
 pub fn keeps(awake: bool, cbv: u32, pn: &[u8], mask: &[u8]) -> bool
     ensures { result ≡ keeps awake cbv pn.now mask.now }
 {
     awake | (informs(cbv) & bits::some_masked(pn, mask))
 }
 
-// The filter's decision on a PDU with this control bit vector and these PN bytes.
-pub fn decide(awake: bool, cbv: u32, pn: &[u8], mask: &[u8]) -> Verdict
+// The filter's decision on a PDU with this control bit vector and these PN bytes: whether it is kept.
+#[tactic(auto, unfolding(crate::specs::Filter::verdict_of))]
+pub fn decide(awake: bool, cbv: u32, pn: &[u8], mask: &[u8]) -> Result<bool, Refusal>
     ensures { result ≡ verdict_of awake cbv pn.now mask.now }
 {
-    if pn.len() == mask.len() {
-        if keeps(awake, cbv, pn, mask) {
-            return Verdict::Kept;
-        }
-        return Verdict::Dropped;
+    if pn.len() != mask.len() {
+        return Err(Refusal::Length);
     }
-    Verdict::Unequal
+    Ok(keeps(awake, cbv, pn, mask))
 }
 
 // The answer that goes with a verdict.
-pub fn answer(v: Verdict) -> Answer
+pub fn answer(v: Result<bool, Refusal>) -> Answer
     ensures { result ≡ verdict_answer v }
 {
-    match v {
-        Verdict::Kept => Answer::Done,
-        Verdict::Dropped => Answer::Done,
-        Verdict::Unequal => Answer::Length,
-    }
+    answers::answer_to(v)
 }
 
-// The value beside it: 1 where the PDU is kept.
-pub fn value(v: Verdict) -> u8
+// The value beside it: 1 where the PDU is kept. A number, since the C function `cannm_pn_filter` gives it, 0 for a refusal.
+pub fn value(v: Result<bool, Refusal>) -> u8
     ensures { result ≡ verdict_value v }
 {
     match v {
-        Verdict::Kept => 1,
-        Verdict::Dropped => 0,
-        Verdict::Unequal => 0,
+        Ok(true) => 1,
+        Ok(false) => 0,
+        Err(_) => 0,
     }
 }

@@ -17,7 +17,7 @@ fn cbv_sent(on: bool, x: Traffic) -> u8
     bit(x.repeating, 1) + bit(x.waking, 16) + bit(on, 64)
 }
 
-// A bit by its weight.
+// A bit by its weight. No `u8::from(set) * weight`: a product is no plainer than the choice.
 fn bit(set: bool, weight: u8) -> u8
     ensures { (result ≡ cond set weight 0) × (result ≤ weight) }
 {
@@ -57,12 +57,12 @@ pub fn load_sent(
 {
     let before = *timers;
     let mask = c.pn.mask;
-    tables::count_down(timers);
-    tables::load(
+    timers::count_down(timers);
+    timers::load_where(
         slices::part(requests, 0, c.pn.length as usize),
         &mask,
         reset,
         timers,
     );
-    tables::differ(&before, timers)
+    vectors::vectors_differ(&before, timers)
 }

@@ -1,5 +1,7 @@
 -- Rules 6 and 7 of a configuration: the length of its PDU, and the positions of the header. Assumes nothing.
-use Rattle.std.specs.Prelude.{ℕ, Bool, cond, not, ◌&&◌, ◌||◌, leb, eqb}
+use Rattle.std.specs.Prelude.{ℕ, Bool, cond, not, ◌&&◌, ◌||◌, leb, eqb, Result, Ok, Err, ⊤}
+use Rattle.answers.specs.declared.BrokenRule.{BrokenRule}
+use Rattle.answers.specs.declared.BrokenRule.TheVariants.{PduLength, Header}
 use Rattle.config.specs.declared.Layout.{Layout}
 use Rattle.config.specs.Bounds.{length_row, within}
 use Rattle.config.specs.Ranges.{off, header_length}
@@ -25,10 +27,10 @@ rule7 l =
     && behind l.cbv l.sni
     && leb (header_length l) l.length
 
--- the number n where a rule is broken, else what the later rules say
-abbrev pub unless : Bool → ℕ → ℕ → ℕ
-unless kept n later = cond kept later n
+-- the rule n where it is broken, else what the later rules say
+abbrev pub unless : Bool → BrokenRule → Result ⊤ BrokenRule → Result ⊤ BrokenRule
+unless kept n later = cond kept later (Err n)
 
 -- the first broken rule of the header alone: its length and positions
-unfoldable pub first_broken_of_header : Layout → ℕ
-first_broken_of_header l = unless (rule6 l) 6 (unless (rule7 l) 7 0)
+unfoldable pub first_broken_of_header : Layout → Result ⊤ BrokenRule
+first_broken_of_header l = unless (rule6 l) PduLength (unless (rule7 l) Header (Ok tt))

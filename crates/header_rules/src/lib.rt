@@ -7,8 +7,10 @@
 ghost use Rattle.std.specs.Prelude.{◌≡◌};
 ghost use Rattle.header_rules.specs.HeaderRules.{behind, first_broken_of_header, placed, rule6, rule7};
 
+use answers::BrokenRule;
 use config::Layout;
 
+#[tactic(auto, unfolding(crate::specs::HeaderRules::rule6))]
 pub fn length_rule(l: Layout) -> bool
     ensures { result ≡ rule6 l }
 {
@@ -27,6 +29,7 @@ fn is_behind(position: u64, other: u64) -> bool
     (position != 1) | (other == 0)
 }
 
+#[tactic(auto, unfolding(crate::specs::HeaderRules::rule7))]
 pub fn header_rule(l: Layout) -> bool
     ensures { result ≡ rule7 l }
 {
@@ -38,9 +41,11 @@ pub fn header_rule(l: Layout) -> bool
         & (config::header_length(l) <= l.length)
 }
 
-// Of the header alone, its length (6) and its positions (7): 0 where neither is broken.
-pub fn first_broken_of_header(l: Layout) -> u8
+// The first broken rule of the header alone: of its length, or of its positions.
+#[tactic(auto, unfolding(crate::specs::HeaderRules::first_broken_of_header))]
+pub fn first_broken_of_header(l: Layout) -> Result<(), BrokenRule>
     ensures { result ≡ first_broken_of_header l }
 {
-    choice::pick8(length_rule(l), choice::pick8(header_rule(l), 0, 7), 6)
+    BrokenRule::PduLength.unless(length_rule(l))?;
+    BrokenRule::Header.unless(header_rule(l))
 }

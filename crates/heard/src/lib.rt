@@ -6,16 +6,9 @@
 
 ghost use Rattle.std.specs.Prelude.{◌≡◌};
 ghost use Rattle.vectors.specs.Vectors.{vectors_differ};
-ghost use Rattle.filter.specs.Filter.{keeps};
 ghost use Rattle.heard.specs.Heard.{accepted, asks_repeat, loaded_by};
 
-use config::{Config, PDU_MOST, PNC_MOST};
-
-fn keeps<'a>(awake: bool, cbv: u32, pn: &'a [u8], mask: &'a [u8; PDU_MOST]) -> bool
-    ensures { result ≡ keeps awake cbv pn.now mask.now }
-{
-    filter::keeps(awake, cbv, pn, mask)
-}
+use config::{Config, PNC_MOST};
 
 // Is it accepted, with the filter on or off?
 pub fn accepted(c: Config, filter: bool, pdu: &[u8]) -> bool
@@ -24,7 +17,7 @@ pub fn accepted(c: Config, filter: bool, pdu: &[u8]) -> bool
     let mask = c.pn.mask;
     let pn = slices::part(pdu, c.pn.start as usize, c.pn.length as usize);
     let cbv = layout::byte_at(pdu, c.layout.cbv);
-    !filter | keeps(c.pn.awake, cbv as u32, pn, &mask)
+    !filter | filter::keeps(c.pn.awake, cbv as u32, pn, &mask)
 }
 
 // Does it ask for Repeat Message?
@@ -41,7 +34,7 @@ pub fn load_heard(c: Config, reset: u16, pdu: &[u8], timers: &mut [u16; PNC_MOST
     let mask = c.pn.mask;
     if filter::informs(layout::byte_at(pdu, c.layout.cbv) as u32) {
         let pn = slices::part(pdu, c.pn.start as usize, c.pn.length as usize);
-        return tables::load(pn, &mask, reset, timers);
+        return timers::load_where(pn, &mask, reset, timers);
     }
     false
 }

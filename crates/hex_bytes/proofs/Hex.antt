@@ -1,5 +1,8 @@
--- Laws of hex pairs, for every place. Assumes nothing.
-use Rattle.std.proofs.Common.{◌≡◌, ℕ, suc, ◌+◌, ◌*◌, ◌%◌, ◌<◌, ◌≤◌, Bool, true, false, cond, ◌&&◌, ltb, leb, List, [], ◌∷◌, length, get_or, drop, refl, add-one, arith, length-drop, drop-cons, ltb-false, ltb-true, le-ltb, lt-ltb, le-leb, leb-true}
+-- Laws of hex pairs. Assumes nothing.
+use Rattle.std.proofs.Common.{◌≡◌, ℕ, suc, ◌+◌, ◌*◌, ◌%◌, ◌<◌, ◌≤◌, Bool, true, false, cond, ◌&&◌, ltb, leb, List, [], ◌∷◌, length, get_or, drop, refl, arith, length-drop, ltb-false, ltb-true, le-ltb, lt-ltb, le-leb, leb-true}
+use Rattle.std.proofs.Common.{take, ◌-◌}
+use Rattle.std.proofs.lemmas.List.{take_all}
+use mathlib.Core.Logic.{◌⊎◌, inl, inr}
 use Rattle.hex_bytes.specs.Hex.{hex_value, hex_pairs}
 
 -- ---- the value of a digit
@@ -30,39 +33,31 @@ value_by d x y z hd hx hy hz e f g = by_test (ltb x 10) (ltb y 6) refl refl
         let m = ltb-false y 6 q in
         rw (outside 48 57 d (λ a b. omega arith), outside 65 70 d (λ a b. omega arith))
 
--- ---- pairs from a place on
+-- ---- the pairs of a text
 
-module _ (s : List ℕ) (i : ℕ) where
-  two : i + 1 < length s → drop i s ≡ get_or s i 0 ∷ get_or s (i + 1) 0 ∷ drop (i + 2) s
-  two h =
-      let e : i + 2 ≡ suc (suc i) = omega arith in
-      let a : i < length s = omega arith in
-      let b : suc i < length s = omega arith in
-      rw (e, add-one, drop-cons s i 0, drop-cons s (suc i) 0)
+pub pairs_end : (s : List ℕ) → length s ≤ 1 → hex_pairs s ≡ []
+unfolding hex_pairs
+pairs_end [] k = refl
+pairs_end (x ∷ []) k = refl
+pairs_end (x ∷ y ∷ s) k = absurd (omega arith)
 
-  pub pairs_end : length s ≤ i + 1 → hex_pairs (drop i s) ≡ []
-  unfolding hex_pairs
-  pairs_end h = short (drop i s) (rw length-drop (omega arith))
-    where
-      short : (l : List ℕ) → length l ≤ 1 → hex_pairs l ≡ []
-      short [] k = refl
-      short (x ∷ []) k = refl
-      short (x ∷ y ∷ l) k = absurd (omega arith)
+-- the first pair, by the values of its digits: none, or a byte and the pairs behind it
+pub pairs_none : (s : List ℕ) {h l : ℕ} → 2 ≤ length s → h ≡ hex_value (get_or s 0 0) → l ≡ hex_value (get_or s 1 0) → (15 < h) ⊎ (h ≤ 15 × 15 < l) → hex_pairs s ≡ []
+unfolding hex_pairs
+pairs_none [] room high low e = absurd (omega arith)
+pairs_none (x ∷ []) room high low e = absurd (omega arith)
+pairs_none (x ∷ y ∷ s) {h} {l} room high low (inl e) = rw (← high, lt-ltb 15 h e)
+pairs_none (x ∷ y ∷ s) {h} {l} room high low (inr e) = rw (← high, ← low, le-ltb 15 h e.0, lt-ltb 15 l e.1)
 
-  -- the pair at the place, by the values of its digits
-  module _ (room : i + 1 < length s) {h : ℕ} (high : h ≡ hex_value (get_or s i 0)) where
-    pub pairs_high : 15 < h → hex_pairs (drop i s) ≡ []
-    unfolding hex_pairs
-    pairs_high e = rw (two room, ← high, lt-ltb 15 h e)
+pub pairs_more : (s : List ℕ) {h l : ℕ} → 2 ≤ length s → h ≡ hex_value (get_or s 0 0) → l ≡ hex_value (get_or s 1 0) → h ≤ 15 → l ≤ 15 → hex_pairs s ≡ (h * 16 + l) ∷ hex_pairs (drop 2 s)
+unfolding hex_pairs
+pairs_more [] room high low e f = absurd (omega arith)
+pairs_more (x ∷ []) room high low e f = absurd (omega arith)
+pairs_more (x ∷ y ∷ s) {h} {l} room high low e f = rw (← high, ← low, le-ltb 15 h e, le-ltb 15 l f)
 
-    module _ {l : ℕ} (low : l ≡ hex_value (get_or s (i + 1) 0)) (fits : h ≤ 15) where
-      pub pairs_low : 15 < l → hex_pairs (drop i s) ≡ []
-      unfolding hex_pairs
-      pairs_low e = rw (two room, ← high, ← low, le-ltb 15 h fits, lt-ltb 15 l e)
-
-      pub pairs_more : l ≤ 15 → hex_pairs (drop i s) ≡ (h * 16 + l) ∷ hex_pairs (drop (i + 2) s)
-      unfolding hex_pairs
-      pairs_more e = rw (two room, ← high, ← low, le-ltb 15 h fits, le-ltb 15 l e)
+-- what stands behind the first pair
+pub behind : (s : List ℕ) → take (length s - 2) (drop 2 s) ≡ drop 2 s
+behind s = take_all (length s - 2) (drop 2 s) (rw length-drop (omega arith))
 
 -- pairs have half as many bytes as digits
 pub pairs_short : (s : List ℕ) → 2 * length (hex_pairs s) ≤ length s

@@ -17,7 +17,7 @@ fn hex_value(d: u8) -> u8
     let x = std::num::wrapping_sub_u8(d, b'0');
     let y = std::num::wrapping_sub_u8(d, b'A');
     let z = std::num::wrapping_sub_u8(d, b'A' - 10);
-    choice::pick8(x < 10, x, choice::pick8(y < 6, z, 16))
+    choice::pick(x < 10, x, choice::pick(y < 6, z, 16))
 }
 
 // The bytes of the leading hex pairs, in front of the buffer; answers how many pairs there are. A text is hex
@@ -25,20 +25,17 @@ fn hex_value(d: u8) -> u8
 pub fn hex_pairs(s: &[u8], out: &mut [u8]) -> usize
     ensures { filled result out.new ≡ fill out.old (hex_pairs s.now) }
 {
-    let mut i = 0;
     let mut n = 0;
-    while i + 1 < s.len() {
-        let high = hex_value(s[i]);
-        let low = hex_value(s[i + 1]);
-        if 15 < high {
-            return n;
-        }
-        if 15 < low {
+    let mut rest = s;
+    while let [h, l, behind @ ..] = rest {
+        let high = hex_value(*h);
+        let low = hex_value(*l);
+        if 15 < high || 15 < low {
             return n;
         }
         slices::put(out, n, high * 16 + low);
         n += 1;
-        i += 2;
+        rest = behind;
     }
     n
 }

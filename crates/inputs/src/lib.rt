@@ -15,33 +15,29 @@ pub fn set_user_data(mut ch: Channel, bytes: &[u8]) -> Reply
     ensures { result ≡ replied ch (set_user_data bytes.now) }
 {
     let c = ch.own.config;
-    let m = ch.own.mode;
-    let state = m.state;
-    let ok = soundness::sound(c, ch.own.ticks, m, ch.own.traffic, &ch.own.era, &ch.eira);
-    let rule = decision::rule_of(state, decision::SET_USER_DATA);
+    let ok = ch.is_sound();
+    let rule = decision::rule_of(ch.own.mode.state, decision::SET_USER_DATA);
     let size = bytes.len() as u64 != config::user_length(c);
     let a = refusals::judge(ok, c.passive, false, decision::is_not_here(rule), size);
-    if refusals::is_done(a) {
-        tables::store(bytes, &mut ch.own.user);
+    if a.is_ok() {
+        slices::copy(bytes, &mut ch.own.user);
         return channel::moved(ch, rule, false, false, false);
     }
     channel::refused(ch, a)
 }
 
-// The PN requests of the frames to come.
+// The PN requests of the frames to come. Not one function with `set_user_data`: they differ in field, length and refusals.
 pub fn set_pn_requests(mut ch: Channel, bytes: &[u8]) -> Reply
     ensures { result ≡ replied ch (set_pn_requests bytes.now) }
 {
     let c = ch.own.config;
-    let m = ch.own.mode;
-    let state = m.state;
-    let ok = soundness::sound(c, ch.own.ticks, m, ch.own.traffic, &ch.own.era, &ch.eira);
-    let rule = decision::rule_of(state, decision::SET_PN_REQUESTS);
+    let ok = ch.is_sound();
+    let rule = decision::rule_of(ch.own.mode.state, decision::SET_PN_REQUESTS);
     let off = !c.pn.on;
     let size = bytes.len() as u64 != c.pn.length;
     let a = refusals::judge(ok, c.passive, off, decision::is_not_here(rule), size);
-    if refusals::is_done(a) {
-        tables::store(bytes, &mut ch.own.requests);
+    if a.is_ok() {
+        slices::copy(bytes, &mut ch.own.requests);
         return channel::moved(ch, rule, false, false, false);
     }
     channel::refused(ch, a)

@@ -3,10 +3,11 @@
 use mathlib.Core.Path.{◌≡◌, refl}
 use mathlib.Core.Bool.{Bool, true, false, ◌&&◌, and-false}
 use lib.Dec.{eqb}
+use Rattle.std.specs.Prelude.{is_ok}
 use borrow.Author.Tests.{eqb-true}
 use Rattle.choice.proofs.Tests.{and_left, and_right}
 use Rattle.config.specs.declared.Config.{Config}
-use Rattle.config.specs.declared.Ticks.{Ticks}
+use Rattle.config.specs.Times.{Ticks}
 use Rattle.rules.specs.Rules.{first_broken, first_broken_by}
 use Rattle.time_rules.specs.TimeRules.{ticks_for}
 use Rattle.kept_ticks.specs.KeptTicks.{same_ticks, configured}
@@ -38,10 +39,10 @@ same_ticks_law t u e =
       eqb-true t.reset u.reset (and_right (a && b && c && d && f && g && h) i e),
     )
 
-pub judged_alike : (c : Config) (t : Ticks) → (eqb (first_broken_by c t) 0 && same_ticks t (ticks_for c)) ≡ configured c t
+pub judged_alike : (c : Config) (t : Ticks) → (is_ok (first_broken_by c t) && same_ticks t (ticks_for c)) ≡ configured c t
 unfolding configured first_broken
 judged_alike c t = go (same_ticks t (ticks_for c)) refl
   where
-    go : (s : Bool) → same_ticks t (ticks_for c) ≡ s → (eqb (first_broken_by c t) 0 && s) ≡ (eqb (first_broken_by c (ticks_for c)) 0 && s)
+    go : (s : Bool) → same_ticks t (ticks_for c) ≡ s → (is_ok (first_broken_by c t) && s) ≡ (is_ok (first_broken_by c (ticks_for c)) && s)
     go true e = rw (same_ticks_law t (ticks_for c) e)
-    go false e = rw (and-false (eqb (first_broken_by c t) 0), and-false (eqb (first_broken_by c (ticks_for c)) 0))
+    go false e = rw (and-false (is_ok (first_broken_by c t)), and-false (is_ok (first_broken_by c (ticks_for c))))

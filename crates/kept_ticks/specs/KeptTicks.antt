@@ -1,7 +1,7 @@
 -- The condition of a sound state on its configuration and the ticks kept beside it. Assumes nothing.
-use Rattle.std.specs.Prelude.{Bool, ◌&&◌, eqb}
+use Rattle.std.specs.Prelude.{Bool, ◌&&◌, eqb, is_ok}
 use Rattle.config.specs.declared.Config.{Config}
-use Rattle.config.specs.declared.Ticks.{Ticks}
+use Rattle.config.specs.Times.{Ticks}
 use Rattle.rules.specs.Rules.{first_broken}
 use Rattle.time_rules.specs.TimeRules.{ticks_for}
 
@@ -19,4 +19,4 @@ same_ticks t u =
 
 -- the configuration passes
 unfoldable pub configured : Config → Ticks → Bool
-configured c t = eqb (first_broken c) 0 && same_ticks t (ticks_for c)
+configured c t = is_ok (first_broken c) && same_ticks t (ticks_for c)

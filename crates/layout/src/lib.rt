@@ -31,7 +31,7 @@ pub fn byte_at(pdu: &[u8], position: u64) -> u8
     if position == config::OFF {
         return 0;
     }
-    bits::byte_at(pdu, position as usize)
+    pdu.get(position as usize).copied().unwrap_or(0)
 }
 
 // ---- all fields

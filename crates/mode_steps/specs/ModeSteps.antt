@@ -1,6 +1,6 @@
 -- What steps a to c of a tick do to the mode. Assumes nothing.
 use Rattle.std.specs.Prelude.{◌-◌, cond, leb, eqb}
-use Rattle.config.specs.declared.Ticks.{Ticks}
+use Rattle.config.specs.Times.{Ticks}
 use Rattle.states.specs.declared.State.TheVariants.{BusSleep, PrepareBusSleep, NormalOperation, ReadySleep}
 use Rattle.states.specs.declared.Mode.{Mode}
 use Rattle.modes.specs.Mode.{mode, with_nm}

@@ -11,64 +11,70 @@ use config::Ticks;
 use states::{Mode, State};
 
 // Step a in Repeat Message and Normal Operation.
+#[tactic(auto, unfolding(crate::specs::ModeSteps::nm_in_repeat_or_normal))]
 pub fn nm_in_repeat_or_normal(t: Ticks, m: Mode) -> Mode
     ensures { result ≡ nm_in_repeat_or_normal t m }
 {
-    let mut n = m;
     if m.sending {
-        n.nm = choice::pick16(m.nm <= 1, t.timeout, ticks::down(m.nm));
-        return n;
+        Mode {
+            nm: choice::pick(m.nm <= 1, t.timeout, ticks::down(m.nm)),
+            ..m
+        }
+    } else {
+        m
     }
-    n
 }
 
+#[tactic(auto, unfolding(crate::specs::ModeSteps::prepared))]
 fn prepared(t: Ticks, m: Mode) -> Mode
     ensures { result ≡ prepared t m }
 {
-    let mut n = modes::with_state(m, State::PrepareBusSleep);
-    n.nm = 0;
-    n.wait = t.wait;
-    n
+    Mode {
+        state: State::PrepareBusSleep,
+        nm: 0,
+        wait: t.wait,
+        ..m
+    }
 }
 
 // Step a in Ready Sleep.
+#[tactic(auto, unfolding(crate::specs::ModeSteps::nm_in_ready))]
 pub fn nm_in_ready(t: Ticks, m: Mode) -> Mode
     ensures { result ≡ nm_in_ready t m }
 {
-    if m.sending {
-        if m.nm <= 1 {
-            return prepared(t, m);
+    if !m.sending {
+        m
+    } else if m.nm <= 1 {
+        prepared(t, m)
+    } else {
+        Mode {
+            nm: ticks::down(m.nm),
+            ..m
         }
-        let mut n = m;
-        n.nm = ticks::down(m.nm);
-        return n;
     }
-    m
 }
 
 // Step b.
+#[tactic(auto, unfolding(crate::specs::ModeSteps::wait_in_prepare))]
 pub fn wait_in_prepare(m: Mode) -> Mode
     ensures { result ≡ wait_in_prepare m }
 {
-    let mut n = m;
-    n.wait = ticks::down(m.wait);
-    if m.wait == 1 {
-        return modes::with_state(n, State::BusSleep);
+    Mode {
+        state: choice::pick(m.wait == 1, State::BusSleep, m.state),
+        wait: ticks::down(m.wait),
+        ..m
     }
-    n
 }
 
 // Step c.
+#[tactic(auto, unfolding(crate::specs::ModeSteps::repeat_in_repeat))]
 pub fn repeat_in_repeat(m: Mode) -> Mode
     ensures { result ≡ repeat_in_repeat m }
 {
-    let mut n = m;
-    n.repeat = ticks::down(m.repeat);
-    if m.repeat <= 1 {
-        if m.requested {
-            return modes::with_state(n, State::NormalOperation);
-        }
-        return modes::with_state(n, State::ReadySleep);
+    let next = choice::pick(m.requested, State::NormalOperation, State::ReadySleep);
+    Mode {
+        state: choice::pick(m.repeat <= 1, next, m.state),
+        repeat: ticks::down(m.repeat),
+        ..m
     }
-    n
 }

@@ -1,6 +1,6 @@
 -- What each transition rule does to the mode and to the traffic. Assumes nothing.
 use Rattle.std.specs.Prelude.{Bool, true, false}
-use Rattle.config.specs.declared.Ticks.{Ticks}
+use Rattle.config.specs.Times.{Ticks}
 use Rattle.states.specs.declared.State.TheVariants.{NormalOperation, ReadySleep}
 use Rattle.states.specs.declared.Mode.{Mode}
 use Rattle.decision.specs.declared.Rule.{Rule}

@@ -12,49 +12,47 @@ use decision::Rule;
 use states::{Mode, State};
 
 // The mode after a rule; `again` says that a PDU asks for Repeat Message.
+#[tactic(auto, unfolding(crate::specs::ModeTransitions::mode_by))]
 pub fn mode_by(rule: Rule, again: bool, t: Ticks, m: Mode) -> Mode
     ensures { result ≡ mode_by rule again t m }
 {
-    let mut n = m;
     match rule {
-        Rule::Keep => m,
-        Rule::NotHere => m,
+        Rule::Keep | Rule::NotHere | Rule::Start => m,
         Rule::WakeUp => modes::enter_network(t, m),
-        Rule::ActiveWakeUp => {
-            n.requested = true;
-            modes::enter_network(t, n)
-        }
-        Rule::Request => {
-            n.requested = true;
-            n
-        }
-        Rule::ToNormal => {
-            n.requested = true;
-            modes::with_state(n, State::NormalOperation)
-        }
-        Rule::Release => {
-            n.requested = false;
-            n
-        }
-        Rule::ToReady => {
-            n.requested = false;
-            modes::with_state(n, State::ReadySleep)
-        }
+        Rule::ActiveWakeUp => modes::enter_network(
+            t,
+            Mode {
+                requested: true,
+                ..m
+            },
+        ),
+        Rule::Request => Mode {
+            requested: true,
+            ..m
+        },
+        Rule::ToNormal => Mode {
+            state: State::NormalOperation,
+            requested: true,
+            ..m
+        },
+        Rule::Release => Mode {
+            requested: false,
+            ..m
+        },
+        Rule::ToReady => Mode {
+            state: State::ReadySleep,
+            requested: false,
+            ..m
+        },
         Rule::Repeat => modes::enter_repeat(t, m),
-        Rule::Disable => {
-            n.sending = false;
-            n
-        }
+        Rule::Disable => Mode {
+            sending: false,
+            ..m
+        },
         Rule::Enable => modes::enabled(t, m),
-        Rule::Confirm => modes::restart(t, m),
-        Rule::Start => m,
-        Rule::HeardInRepeat => modes::restart(t, m),
-        Rule::HeardInNormal => modes::heard(again, t, m),
-        Rule::HeardInReady => modes::heard(again, t, m),
-        Rule::FilterOn => {
-            n.filter = true;
-            n
-        }
+        Rule::Confirm | Rule::HeardInRepeat => modes::restart(t, m),
+        Rule::HeardInNormal | Rule::HeardInReady => modes::heard(again, t, m),
+        Rule::FilterOn => Mode { filter: true, ..m },
         Rule::TickInPrepare => mode_steps::wait_in_prepare(m),
         Rule::TickInRepeat => mode_steps::repeat_in_repeat(mode_steps::nm_in_repeat_or_normal(
             t, m,

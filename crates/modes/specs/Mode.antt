@@ -1,7 +1,7 @@
 -- What each transition rule of a call does to the mode: the state with its flags, and the NM, wait and repeat timers.
 -- Assumes nothing.
 use Rattle.std.specs.Prelude.{ℕ, Bool, true, cond}
-use Rattle.config.specs.declared.Ticks.{Ticks}
+use Rattle.config.specs.Times.{Ticks}
 use Rattle.states.specs.declared.State.{State}
 use Rattle.states.specs.declared.State.TheVariants.{RepeatMessage}
 use Rattle.states.specs.declared.Mode.{Mode}

@@ -11,60 +11,63 @@ ghost use Rattle.modes.specs.Mode.{enabled, enter_network, enter_repeat, heard, 
 use config::Ticks;
 use states::{Mode, State};
 
-// The only place that makes a mode anew: the same in another state.
+// The same in another state: no more than struct update, which the rules use; docs/PROMISES.md names it.
 pub fn with_state(m: Mode, s: State) -> Mode
     ensures { result ≡ with_state s m }
 {
-    Mode {
-        state: s,
-        requested: m.requested,
-        sending: m.sending,
-        filter: m.filter,
-        nm: m.nm,
-        wait: m.wait,
-        repeat: m.repeat,
-    }
+    Mode { state: s, ..m }
 }
 
+#[tactic(auto, unfolding(crate::specs::Mode::enter_repeat))]
 pub fn enter_repeat(t: Ticks, m: Mode) -> Mode
     ensures { result ≡ enter_repeat t m }
 {
-    let mut n = with_state(m, State::RepeatMessage);
-    n.repeat = t.repeat;
-    n
+    Mode {
+        state: State::RepeatMessage,
+        repeat: t.repeat,
+        ..m
+    }
 }
 
+#[tactic(auto, unfolding(crate::specs::Mode::enter_network))]
 pub fn enter_network(t: Ticks, m: Mode) -> Mode
     ensures { result ≡ enter_network t m }
 {
-    let mut n = m;
-    n.nm = t.timeout;
-    n.wait = 0;
-    enter_repeat(t, n)
+    enter_repeat(
+        t,
+        Mode {
+            nm: t.timeout,
+            wait: 0,
+            ..m
+        },
+    )
 }
 
+#[tactic(auto, unfolding(crate::specs::Mode::restart))]
 pub fn restart(t: Ticks, m: Mode) -> Mode
     ensures { result ≡ restart t m }
 {
-    let mut n = m;
-    n.nm = choice::pick16(m.sending, t.timeout, m.nm);
-    n
+    Mode {
+        nm: choice::pick(m.sending, t.timeout, m.nm),
+        ..m
+    }
 }
 
+#[tactic(auto, unfolding(crate::specs::Mode::heard))]
 pub fn heard(again: bool, t: Ticks, m: Mode) -> Mode
     ensures { result ≡ heard again t m }
 {
-    if again {
-        return enter_repeat(t, restart(t, m));
-    }
-    restart(t, m)
+    let n = restart(t, m);
+    if again { enter_repeat(t, n) } else { n }
 }
 
+#[tactic(auto, unfolding(crate::specs::Mode::enabled))]
 pub fn enabled(t: Ticks, m: Mode) -> Mode
     ensures { result ≡ enabled t m }
 {
-    let mut n = m;
-    n.nm = choice::pick16(m.sending, m.nm, t.timeout);
-    n.sending = true;
-    n
+    Mode {
+        nm: choice::pick(m.sending, m.nm, t.timeout),
+        sending: true,
+        ..m
+    }
 }

@@ -1,15 +1,12 @@
--- Laws of names: packing, the search of the table, and that packing tells names apart. Assumes nothing.
+-- Laws of names: packing, and that packing tells names apart. Assumes nothing.
 use mathlib.Core.Path.{◌≡◌, refl, sym}
 use mathlib.Core.Bool.{Bool, true, false, cond, ◌&&◌, and-eq-true_iff}
 use mathlib.Core.List.{List, [], ◌∷◌, map}
-use Prim.Native.Nat.{ℕ, zero, suc, ◌+◌, ◌*◌, ◌≤◌, ◌<◌}
-use native.Mathlib.Nat.{add-zero}
-use native.Mathlib.Numerals.{add-one}
+use Prim.Native.Nat.{ℕ, zero, suc, ◌+◌, ◌*◌, ◌<◌}
 use native.Mathlib.Omega.{arith}
-use lib.ListN.{length, drop, get_or, drop_of_length-le}
-use lib.Seq.{drop-cons}
+use lib.ListN.{length, get_or}
 use lib.Dec.{eqb, ltb}
-use borrow.Author.Tests.{eq-eqb, ne_eqb, eqb-true, ltb-true}
+use borrow.Author.Tests.{eqb-true, ltb-true}
 use Rattle.names.specs.Names.{call_of, names, packed, place}
 
 -- ---- packing, by the length
@@ -42,21 +39,6 @@ packed_else (a ∷ []) p q r = absurd (p refl)
 packed_else (a ∷ b ∷ []) p q r = absurd (q refl)
 packed_else (a ∷ b ∷ c ∷ []) p q r = absurd (r refl)
 packed_else (a ∷ b ∷ c ∷ d ∷ s) p q r = refl
-
--- ---- the search
-
-module _ (x : ℕ) (s : List ℕ) (i : ℕ) where
-  pub place_end : length s ≤ i → i + place x (drop i s) ≡ i
-  unfolding place
-  place_end h = rw (drop_of_length-le s h, add-zero)
-
-  pub place_hit : i < length s → get_or s i 0 ≡ x → i + place x (drop i s) ≡ i
-  unfolding place
-  place_hit h e = rw (drop-cons s i 0, eq-eqb _ _ e, add-zero)
-
-  pub place_miss : i < length s → (get_or s i 0 ≡ x → ⊥) → i + place x (drop i s) ≡ i + 1 + place x (drop (i + 1) s)
-  unfolding place
-  place_miss h e = rw (drop-cons s i 0, ne_eqb _ _ e, add-one) (omega arith)
 
 -- ---- a name that is found is that name
 

@@ -1,5 +1,7 @@
 -- The names of a trace's lines. Assumes nothing.
-use Rattle.std.specs.Prelude.{ℕ, zero, suc, ◌+◌, ◌*◌, cond, List, [], ◌∷◌, map, eqb}
+use Rattle.std.specs.Prelude.{ℕ, zero, suc, ◌+◌, ◌*◌, cond, Bool, false, List, [], ◌∷◌, map, eqb, get_or, Option, Some, None}
+use Rattle.names.specs.declared.Name.{Name}
+use Rattle.names.specs.declared.Name.TheVariants.{Req, Rel, Pas, Rmr, Dis, Ena, Ok, Bad, Pna, Rx, Ud, Pnr, T, Cfg, Pn}
 
 -- a name as one number: a 1 and its bytes; 0 where it has none or more than three
 unfoldable pub packed : List ℕ → ℕ
@@ -26,3 +28,36 @@ place x (y ∷ ys) = cond (eqb y x) zero (suc (place x ys))
 -- the number of a name: its place among the names
 unfoldable pub call_of : List ℕ → ℕ
 call_of f = place (packed f) (map packed names)
+
+-- the name of each number, none past the last
+abbrev pub name_table : List (Option Name)
+name_table =
+    Some Req ∷ Some Rel ∷ Some Pas ∷ Some Rmr ∷ Some Dis ∷ Some Ena ∷ Some Ok ∷ Some Bad
+    ∷ Some Pna ∷ Some Rx ∷ Some Ud ∷ Some Pnr ∷ Some T ∷ Some Cfg ∷ Some Pn
+    ∷ []
+
+unfoldable pub name_at : ℕ → Option Name
+name_at n = get_or name_table n None
+
+-- the number of a name
+abbrev pub number_of : Name → ℕ
+number_of Req = 0
+number_of Rel = 1
+number_of Pas = 2
+number_of Rmr = 3
+number_of Dis = 4
+number_of Ena = 5
+number_of Ok = 6
+number_of Bad = 7
+number_of Pna = 8
+number_of Rx = 9
+number_of Ud = 10
+number_of Pnr = 11
+number_of T = 12
+number_of Cfg = 13
+number_of Pn = 14
+
+-- is it that name?
+abbrev pub is_name : Option Name → Name → Bool
+is_name (Some n) m = eqb (number_of n) (number_of m)
+is_name None m = false

@@ -1,14 +1,16 @@
 -- Laws of notes, one behind the other. Assumes nothing.
 use mathlib.Core.Path.{◌≡◌, refl, sym, ◌∙◌}
 use mathlib.Core.Bool.{Bool, true, false}
-use mathlib.Core.List.{List, [], ◌∷◌, ◌++◌}
+use mathlib.Core.List.{List, [], ◌∷◌, ◌++◌, append-nil}
 use Prim.Native.Nat.{ℕ, ◌+◌, ◌≤◌}
 use native.Mathlib.Omega.{arith}
 use borrow.Author.Tests.{eq-eqb, ne_eqb}
 use lib.Dec.{eqb}
 use lib.ListN.{length, length-append}
-use Rattle.print.specs.Print.{Wrote}
-use Rattle.print.proofs.Wrote.{then}
+use Rattle.std.specs.Prelude.{Option, Some, None}
+use Rattle.print.specs.Print.{HasRoom, Puts, dash}
+use Rattle.print.specs.declared.Writer.{Writer}
+use Rattle.print.proofs.Wrote.{puts_room, puts_then}
 use Rattle.states.specs.declared.Note.{Note}
 use Rattle.states.specs.declared.Note.TheVariants as notes
 use Rattle.channel.specs.declared.state.Notes.{Notes}
@@ -19,30 +21,35 @@ at_start : (i : ℕ) {p : ℕ} (t : List ℕ) → p ≡ i + length t → eqb p i
 at_start i {p} [] e = eq-eqb p i (omega arith)
 at_start i {p} (x ∷ t) e = ne_eqb p i (λ q. omega arith) ∙ sym (ne_eqb (length (x ∷ t)) 0 (λ q. omega arith))
 
--- a word behind the words that stand there
-pub then_word : {l : List ℕ} {i : ℕ} {t m : List ℕ} {p : ℕ} (w : List ℕ) {n : List ℕ} {r : ℕ}
-    → Wrote l i t m p → Wrote m p (piece (eqb p i) w) n r → Wrote l i (add_word t w) n r
-then_word {i = i} {t} w v u = then v (rw (at_start i t v.next) at u)
+module _ {u v : Writer} {t : List ℕ} (stands : Puts u t v) where
+  -- a word behind the words that stand there
+  pub then_word : (word : List ℕ) {w : Writer} → Puts v (piece (eqb v.at u.at) word) w → Puts u (add_word t word) w
+  then_word word p = puts_then stands (rw (at_start u.at t stands.text.next) at p)
 
--- the dash behind no word
-pub then_dash : {l : List ℕ} {i : ℕ} {t m : List ℕ} {p : ℕ} {n : List ℕ} {r : ℕ}
-    → Wrote l i t m p → Wrote m p (dashed (eqb p i)) n r → Wrote l i (t ++ dashed (eqb (length t) 0)) n r
-then_dash {i = i} {t} v u = then v (rw (at_start i t v.next) at u)
+  -- the dash behind no word
+  pub then_dash : {w : Writer} → v.at ≡ u.at → Puts v (dash ∷ []) w → Puts u (t ++ dashed (eqb (length t) 0)) w
+  unfolding dashed
+  then_dash e p = rw (← at_start u.at t stands.text.next, eq-eqb v.at u.at e) (puts_then stands p)
+
+  -- none behind a word
+  pub no_dash : ((v.at ≡ u.at) → ⊥) → Puts u (t ++ dashed (eqb (length t) 0)) v
+  unfolding dashed
+  no_dash n = rw (← at_start u.at t stands.text.next, ne_eqb v.at u.at n, append-nil t) stands
 
 -- ---- how long they are
 
-word_most : (n : Note) → length (word_of n) ≤ 2
+pub word_most : (n : Option Note) → length (word_of n) ≤ 2
 unfolding word_of
-word_most notes.Nothing = omega arith
-word_most notes.NetworkMode = omega arith
-word_most notes.NetworkStart = omega arith
-word_most notes.PrepareBusSleep = omega arith
-word_most notes.BusSleep = omega arith
-word_most notes.Timeout = omega arith
-word_most notes.RemoteSleepCancelled = omega arith
-word_most notes.RemoteSleepIndication = omega arith
+word_most None = omega arith
+word_most (Some notes.NetworkMode) = omega arith
+word_most (Some notes.NetworkStart) = omega arith
+word_most (Some notes.PrepareBusSleep) = omega arith
+word_most (Some notes.BusSleep) = omega arith
+word_most (Some notes.Timeout) = omega arith
+word_most (Some notes.RemoteSleepCancelled) = omega arith
+word_most (Some notes.RemoteSleepIndication) = omega arith
 
-change_most : (b : Bool) (x : ℕ) → length (change_word b x) ≤ 2
+pub change_most : (b : Bool) (x : ℕ) → length (change_word b x) ≤ 2
 unfolding change_word
 change_most true x = omega arith
 change_most false x = omega arith
@@ -59,18 +66,15 @@ piece_most b [] = omega arith
 piece_most true (x ∷ w) = omega arith
 piece_most false (x ∷ w) = omega arith
 
--- where they end at most
-module _ {l m : List ℕ} {i r : ℕ} where
-  pub first_end : (n : Note) → Wrote l i (piece (eqb i i) (word_of n)) m r → r ≤ i + 2
-  first_end n v =
-      let u : Wrote l i (piece true (word_of n)) m r = rw (eq-eqb i i refl) at v in
-      omega (arith, u.next, first_piece (word_of n), word_most n)
+-- what room they leave
+module _ {u v : Writer} (word : List ℕ) (short : length word ≤ 2) (n : ℕ) where
+  pub first_room : Puts u (piece (eqb u.at u.at) word) v → HasRoom u (2 + n) → HasRoom v n
+  first_room p h =
+      let q : Puts u (piece true word) v = rw (eq-eqb u.at u.at refl) at p in
+      puts_room q n (omega (arith, first_piece word))
 
-  pub note_end : (b : Bool) (n : Note) → Wrote l i (piece b (word_of n)) m r → r ≤ i + 3
-  note_end b n v = omega (arith, v.next, piece_most b (word_of n), word_most n)
-
-  pub change_end : (b k : Bool) (x : ℕ) → Wrote l i (piece b (change_word k x)) m r → r ≤ i + 3
-  change_end b k x v = omega (arith, v.next, piece_most b (change_word k x), change_most k x)
+  pub word_room : (b : Bool) → Puts u (piece b word) v → HasRoom u (3 + n) → HasRoom v n
+  word_room b p h = puts_room p n (omega (arith, piece_most b word))
 
 -- a word and its comma are three bytes
 word_adds : (t w : List ℕ) → length w ≤ 2 → length (add_word t w) ≤ length t + 3

@@ -1,5 +1,5 @@
 -- The text of the notes that a line prints. Assumes nothing.
-use Rattle.std.specs.Prelude.{ℕ, Bool, cond, List, [], ◌∷◌, ◌++◌, eqb, length}
+use Rattle.std.specs.Prelude.{ℕ, Bool, cond, List, [], ◌∷◌, ◌++◌, eqb, length, Option, Some, None}
 use Rattle.print.specs.Print.{dash}
 use Rattle.states.specs.declared.Note.{Note}
 use Rattle.states.specs.declared.Note.TheVariants as notes
@@ -10,15 +10,15 @@ abbrev pub comma : ℕ
 comma = 44
 
 -- the word of a note: NM ST PB BS TO RC RI
-unfoldable pub word_of : Note → List ℕ
-word_of notes.Nothing = []
-word_of notes.NetworkMode = 78 ∷ 77 ∷ []
-word_of notes.NetworkStart = 83 ∷ 84 ∷ []
-word_of notes.PrepareBusSleep = 80 ∷ 66 ∷ []
-word_of notes.BusSleep = 66 ∷ 83 ∷ []
-word_of notes.Timeout = 84 ∷ 79 ∷ []
-word_of notes.RemoteSleepCancelled = 82 ∷ 67 ∷ []
-word_of notes.RemoteSleepIndication = 82 ∷ 73 ∷ []
+unfoldable pub word_of : Option Note → List ℕ
+word_of None = []
+word_of (Some notes.NetworkMode) = 78 ∷ 77 ∷ []
+word_of (Some notes.NetworkStart) = 83 ∷ 84 ∷ []
+word_of (Some notes.PrepareBusSleep) = 80 ∷ 66 ∷ []
+word_of (Some notes.BusSleep) = 66 ∷ 83 ∷ []
+word_of (Some notes.Timeout) = 84 ∷ 79 ∷ []
+word_of (Some notes.RemoteSleepCancelled) = 82 ∷ 67 ∷ []
+word_of (Some notes.RemoteSleepIndication) = 82 ∷ 73 ∷ []
 
 -- the second letters of EI and ER
 abbrev pub letter_ei : ℕ

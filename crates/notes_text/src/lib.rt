@@ -1,80 +1,79 @@
 // The text of the notes that a line prints: their words in order, or a dash.
 //
-// Promises: the text of specs/NotesText in the lent buffer from a place on, and no other byte changed. Leaves to others:
-// which notes there are (`channel`), the line around them (`report`), and that the buffer has room.
+// Promises: the text of specs/NotesText is written by the writer, and nothing else. Leaves to others: which notes there are
+// (`channel`), the line around them (`report`), and that the buffer has room.
 #![tactic(auto)]
 
-ghost use Rattle.std.specs.Prelude.{[], ◌∷◌, ◌+◌, ◌≤◌, ◌<◌, eqb, length};
-ghost use Rattle.print.specs.Print.{Wrote};
-ghost use Rattle.notes_text.specs.NotesText.{change_word, dashed, notes_most, notes_text, piece, word_of};
+ghost use Rattle.std.specs.Prelude.{◌≡◌, [], ◌+◌, cond, eqb, length};
+ghost use Rattle.print.specs.Print.{HasRoom, Puts};
+ghost use Rattle.notes_text.specs.NotesText.{notes_most, notes_text, piece, word_of, words};
 
 use channel::state::Notes;
+use print::Writer;
 use states::Note;
 
 // The byte between two notes.
 const COMMA: u8 = b',';
 
-// A word of two letters, behind a comma unless it is the first. There must be room for both.
-fn put_word(out: &mut [u8], first: usize, at: usize, a: u8, b: u8) -> usize
-    requires { at + 3 ≤ length out.old }
-    ensures { Wrote out.old at (piece (eqb at first) (a ∷ b ∷ [])) out.new result }
-{
-    if at == first {
-        return print::put_pair(out, at, a, b);
-    }
-    let p = print::put(out, at, COMMA);
-    print::put_pair(out, p, a, b)
-}
-
-// The word of a note, none where there is nothing to tell. There must be room for a word behind a comma.
-fn put_note(out: &mut [u8], first: usize, at: usize, n: Note) -> usize
-    requires { at + 3 ≤ length out.old }
-    ensures { Wrote out.old at (piece (eqb at first) (word_of n)) out.new result }
+// The word of a note, empty where there is nothing to tell.
+#[tactic(auto, unfolding(crate::specs::NotesText::word_of))]
+fn word_of(n: Option<Note>) -> &'static [u8]
+    ensures { result.now ≡ word_of n }
 {
     match n {
-        Note::Nothing => at,
-        Note::NetworkMode => put_word(out, first, at, b'N', b'M'),
-        Note::NetworkStart => put_word(out, first, at, b'S', b'T'),
-        Note::PrepareBusSleep => put_word(out, first, at, b'P', b'B'),
-        Note::BusSleep => put_word(out, first, at, b'B', b'S'),
-        Note::Timeout => put_word(out, first, at, b'T', b'O'),
-        Note::RemoteSleepCancelled => put_word(out, first, at, b'R', b'C'),
-        Note::RemoteSleepIndication => put_word(out, first, at, b'R', b'I'),
+        None => b"",
+        Some(Note::NetworkMode) => b"NM",
+        Some(Note::NetworkStart) => b"ST",
+        Some(Note::PrepareBusSleep) => b"PB",
+        Some(Note::BusSleep) => b"BS",
+        Some(Note::Timeout) => b"TO",
+        Some(Note::RemoteSleepCancelled) => b"RC",
+        Some(Note::RemoteSleepIndication) => b"RI",
     }
 }
 
-// EI or ER, by its second letter, where a vector changed. There must be room for a word behind a comma.
-fn put_change(out: &mut [u8], first: usize, at: usize, changed: bool, b: u8) -> usize
-    requires { at + 3 ≤ length out.old }
-    ensures { Wrote out.old at (piece (eqb at first) (change_word changed b)) out.new result }
+// The word of a vector that changed, empty where it did not.
+fn change_word(changed: bool, word: &'static [u8]) -> &'static [u8]
+    ensures { result.now ≡ cond changed word.now [] }
 {
-    if changed {
-        return put_word(out, first, at, b'E', b);
-    }
-    at
+    if changed { word } else { b"" }
 }
 
-// The dash where nothing was written since `start`. There must be room for it there.
-fn put_if_none(out: &mut [u8], start: usize, at: usize) -> usize
-    requires { start < length out.old }
-    ensures { Wrote out.old at (dashed (eqb at start)) out.new result }
+// A word where there is one, behind a comma unless the notes begin here. There must be room for both.
+#[tactic(auto, unfolding(crate::specs::NotesText::piece))]
+fn put_word(w: &mut Writer, start: usize, word: &[u8])
+    requires { HasRoom w.old (1 + length word.now) }
+    ensures { Puts w.old (piece (eqb w.old.at start) word.now) w.new }
 {
-    if at == start {
-        return print::put(out, at, print::DASH);
+    if word.is_empty() {
+        return;
     }
-    at
+    if w.at != start {
+        w.put(COMMA);
+    }
+    w.put_all(word);
 }
 
-// The notes in their order, or the dash. There must be room for four words.
-pub fn put_notes(out: &mut [u8], at: usize, n: Notes) -> usize
-    requires { at + notes_most ≤ length out.old }
-    ensures { Wrote out.old at (notes_text n) out.new result }
+// The words of the notes in their order. There must be room for four.
+fn put_words(w: &mut Writer, n: Notes)
+    requires { HasRoom w.old notes_most }
+    ensures { Puts w.old (words n) w.new }
 {
-    let first = n.first;
-    let second = n.second;
-    let p = put_note(out, at, at, first);
-    let q = put_note(out, at, p, second);
-    let r = put_change(out, at, q, n.eira, b'I');
-    let s = put_change(out, at, r, n.era, b'R');
-    put_if_none(out, at, s)
+    let start = w.at;
+    put_word(w, start, word_of(n.first));
+    put_word(w, start, word_of(n.second));
+    put_word(w, start, change_word(n.eira, b"EI"));
+    put_word(w, start, change_word(n.era, b"ER"));
+}
+
+// The notes, or the dash where there are none. There must be room for four words.
+pub fn put_notes(w: &mut Writer, n: Notes)
+    requires { HasRoom w.old notes_most }
+    ensures { Puts w.old (notes_text n) w.new }
+{
+    let start = w.at;
+    put_words(w, n);
+    if w.at == start {
+        w.put(print::DASH);
+    }
 }

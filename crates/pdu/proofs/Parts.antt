@@ -5,6 +5,7 @@ use mathlib.Core.List.{List}
 use Prim.Native.Nat.{ℕ, ◌+◌, ◌≤◌}
 use native.Mathlib.Omega.{arith}
 use lib.Dec.{eqb}
+use Rattle.std.specs.Prelude.{Ok}
 use lib.ListN.{length, take, drop, length-drop}
 use lib.Seq.{sets}
 use borrow.Author.Tests.{eqb-true}
@@ -23,7 +24,7 @@ pub laid : (lent : List ℕ) (i n : ℕ) (pdu : List ℕ) → length lent ≡ n 
     → sets lent 0 (drop i pdu) ≡ take n (drop i pdu)
 laid lent i n pdu e h = rw (sets_over lent (drop i pdu) (omega (arith, length-drop i pdu)), e)
 
-pub fields_laid : (c : Config) (pdu pn user : List ℕ) → first_broken c ≡ 0
+pub fields_laid : (c : Config) (pdu pn user : List ℕ) → first_broken c ≡ Ok tt
     → (of_lengths c (length pn) (length user) && eqb (length pdu) c.layout.length) ≡ true
     → fields (byte_at c.layout.sni pdu) (byte_at c.layout.cbv pdu) (sets pn 0 (drop c.pn.start pdu))
     (sets user 0 (drop (user_start_of c) pdu))

@@ -1,7 +1,7 @@
 -- Composing a PDU and reading it undo each other. The argument goes place by place: header, PN range and user data fill
 -- the PDU and don't overlap, whatever their numbers. Assumes nothing.
 use mathlib.Core.Path.{◌≡◌, refl, ap, sym, ◌∙◌}
-use mathlib.Core.Bool.{Bool, true, false, cond, ◌&&◌}
+use mathlib.Core.Bool.{Bool, true, false, cond, ◌&&◌, false≢true}
 use mathlib.Core.List.{List, [], ◌∷◌, ◌++◌}
 use mathlib.Core.Logic.{◌⊎◌, inl, inr, ⊎_elim}
 use Prim.Native.Nat.{ℕ, zero, suc, ◌+◌, ◌-◌, ◌<◌, ◌≤◌}
@@ -12,11 +12,13 @@ use lib.Seq.{sets, length-sets, get_or-set_same, get_or-set_other, get_or-take, 
 use borrow.Author.Tests.{eqb-true, leb-true, leb-false, eq-eqb, le-leb}
 use Rattle.slices.proofs.Bytes.{at_inside, at_outside, part_is}
 use Rattle.choice.proofs.Tests.{and_left, and_right}
-use Rattle.answers.specs.declared.Answer.TheVariants.{Done, Rule, Length}
+use Rattle.std.specs.Prelude.{Ok, Err, is_ok}
+use Rattle.answers.specs.declared.Refusal.TheVariants.{Length}
+use Rattle.answers.specs.Answers.{Done, ruled}
 use Rattle.config.specs.declared.Config.{Config}
 use Rattle.config.specs.Ranges.{off, header_length, user_start_of, user_length_of}
 use Rattle.rules.specs.Rules.{first_broken}
-use Rattle.rules.proofs.Passes.{passes}
+use Rattle.rules.proofs.Passes.{kept, not_done, passes}
 use Rattle.rules.proofs.Layouts.{Header, none, sni_alone, cbv_alone, sni_first, cbv_first, headed, Filled, filled_by, Stands, covers}
 use Rattle.layout.specs.Fields.{Fields, fields}
 use Rattle.layout.specs.Layout.{byte_at, fields_of, frame_of, of_lengths, put_byte}
@@ -212,7 +214,7 @@ module _ (g : Shape) (w : Fits g) (pdu frame : List ℕ) (size : length pdu ≡ 
 
 -- what it says that a PDU was composed, and that one was read
 record Made (c : Config) (f : Fields) (frame : List ℕ) : Type 0 where
-  whole : first_broken c ≡ 0
+  whole : first_broken c ≡ Ok tt
   pns : length f.pn ≡ c.pn.length
   users : length f.user ≡ user_length_of c
   room : c.layout.length ≤ length frame
@@ -229,7 +231,7 @@ sizes c a b e = (
 made_or_left : (c : Config) (f : Fields) (frame : List ℕ)
     → Made c f frame ⊎ (((composing c f frame).frame ≡ frame) × ((composing c f frame).answer ≡ Done → ⊥))
 unfolding composing
-made_or_left c f frame = go (eqb (first_broken c) 0) fit refl refl
+made_or_left c f frame = go (is_ok (first_broken c)) fit refl refl
   where
     lengths : Bool
     lengths = of_lengths c (length f.pn) (length f.user)
@@ -237,31 +239,31 @@ made_or_left c f frame = go (eqb (first_broken c) 0) fit refl refl
     fit : Bool
     fit = lengths && leb c.layout.length (length frame)
 
-    go : (t r : Bool) → eqb (first_broken c) 0 ≡ t → fit ≡ r
+    go : (t r : Bool) → is_ok (first_broken c) ≡ t → fit ≡ r
         → Made c f frame ⊎ (((composing c f frame).frame ≡ frame) × ((composing c f frame).answer ≡ Done → ⊥))
     go true true e g =
         let k = sizes c (length f.pn) (length f.user) (and_left lengths (leb c.layout.length (length frame)) g) in
         inl
         (record {
-          whole = eqb-true (first_broken c) 0 e;
+          whole = kept (first_broken c) e;
           pns = k.0;
           users = k.1;
           room = leb-true c.layout.length (length frame) (and_right lengths (leb c.layout.length (length frame)) g);
           is = rw (e, g);
         })
     go true false e g =
-        inr (rw (e, g), λ d. let y : Length ≡ Done = rw (e, g) at d in let z : ◌≡◌ {A = ℕ} 0 1 = cc in omega arith)
+        inr (rw (e, g), λ d. false≢true (ap is_ok (rw (e, g) at d)))
     go false r e g =
-        inr (rw e, λ d. let y : Rule (first_broken c) ≡ Done = rw e at d in let z : ◌≡◌ {A = ℕ} 0 1 = cc in omega arith)
+        inr (rw e, λ d. not_done (first_broken c) e (rw e at d))
 
 record Seen (c : Config) (pdu pn user : List ℕ) : Type 0 where
-  whole : first_broken c ≡ 0
+  whole : first_broken c ≡ Ok tt
   size : length pdu ≡ c.layout.length
   is : reading c pdu pn user ≡ taken Done (fields_of c pdu)
 
 seen : (c : Config) (pdu pn user : List ℕ) → (reading c pdu pn user).answer ≡ Done → Seen c pdu pn user
 unfolding reading
-seen c pdu pn user = go (eqb (first_broken c) 0) fit _ _ refl refl
+seen c pdu pn user = go (is_ok (first_broken c)) fit _ _ refl refl
   where
     lengths : Bool
     lengths = of_lengths c (length pn) (length user)
@@ -269,36 +271,36 @@ seen c pdu pn user = go (eqb (first_broken c) 0) fit _ _ refl refl
     fit : Bool
     fit = lengths && eqb (length pdu) c.layout.length
 
-    go : (t r : Bool) (x y : Fields) → eqb (first_broken c) 0 ≡ t → fit ≡ r
-        → (cond t (cond r (taken Done (fields_of c pdu)) (taken Length x)) (taken (Rule (first_broken c)) y)).answer ≡ Done
+    go : (t r : Bool) (x y : Fields) → is_ok (first_broken c) ≡ t → fit ≡ r
+        → (cond t (cond r (taken Done (fields_of c pdu)) (taken (Err Length) x)) (taken (ruled (first_broken c)) y)).answer ≡ Done
         → Seen c pdu pn user
     go true true x y e g d =
         record {
-          whole = eqb-true (first_broken c) 0 e;
+          whole = kept (first_broken c) e;
           size = eqb-true (length pdu) c.layout.length (and_right lengths (eqb (length pdu) c.layout.length) g);
           is = rw (e, g);
         }
-    go true false x y e g d = absurd (let z : ◌≡◌ {A = ℕ} 0 1 = cc in omega arith)
-    go false r x y e g d = absurd (let z : ◌≡◌ {A = ℕ} 0 1 = cc in omega arith)
+    go true false x y e g d = absurd (false≢true (ap is_ok d))
+    go false r x y e g d = absurd (not_done (first_broken c) e d)
 
 -- where nothing is refused
-composes : (c : Config) (f : Fields) (frame : List ℕ) → first_broken c ≡ 0 → length f.pn ≡ c.pn.length
+composes : (c : Config) (f : Fields) (frame : List ℕ) → first_broken c ≡ Ok tt → length f.pn ≡ c.pn.length
     → length f.user ≡ user_length_of c → c.layout.length ≤ length frame → composing c f frame ≡ composed Done (frame_of c f frame)
 unfolding composing of_lengths
 composes c f frame e a b r =
     rw (
-      eq-eqb (first_broken c) 0 e,
+      e,
       eq-eqb (length f.pn) c.pn.length a,
       eq-eqb (length f.user) (user_length_of c) b,
       le-leb c.layout.length (length frame) r,
     )
 
-reads : (c : Config) (pdu pn user : List ℕ) → first_broken c ≡ 0 → length pn ≡ c.pn.length → length user ≡ user_length_of c
+reads : (c : Config) (pdu pn user : List ℕ) → first_broken c ≡ Ok tt → length pn ≡ c.pn.length → length user ≡ user_length_of c
     → length pdu ≡ c.layout.length → reading c pdu pn user ≡ taken Done (fields_of c pdu)
 unfolding reading of_lengths
 reads c pdu pn user e a b l =
     rw (
-      eq-eqb (first_broken c) 0 e,
+      e,
       eq-eqb (length pn) c.pn.length a,
       eq-eqb (length user) (user_length_of c) b,
       eq-eqb (length pdu) c.layout.length l,
@@ -318,7 +320,7 @@ shape c =
       user = user_length_of c;
     }
 
-fits : (c : Config) → first_broken c ≡ 0 → Fits (shape c)
+fits : (c : Config) → first_broken c ≡ Ok tt → Fits (shape c)
 fits c e = record { limit = (headed c.layout (passes c e).header).positions; fill = filled_by c (passes c e) }
 
 reads_back : (c : Config) (f : Fields) (frame pn user : List ℕ) → Made c f frame → length pn ≡ c.pn.length

@@ -1,6 +1,6 @@
 -- The claim that composing a PDU and reading it undo each other. Assumes nothing.
 use Rattle.std.specs.Prelude.{ℕ, ◌≤◌, ◌≡◌, cond, List, ◌++◌, eqb, length, take, drop}
-use Rattle.answers.specs.declared.Answer.TheVariants.{Done}
+use Rattle.answers.specs.Answers.{Done}
 use Rattle.config.specs.declared.Config.{Config}
 use Rattle.config.specs.Ranges.{off, user_length_of}
 use Rattle.layout.specs.Fields.{Fields, fields}

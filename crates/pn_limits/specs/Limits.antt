@@ -1,4 +1,4 @@
--- The most that each timer of a table may hold, and a table under these: `allWithin` in two steps, of which the first is
+-- The most that each timer of a table may hold, and a table under these: `all_within` in two steps, of which the first is
 -- the same for every state of a channel. Assumes nothing.
 use Rattle.std.specs.Prelude.{ℕ, Bool, List, leb, get_or, length}
 use Rattle.bits.specs.Lists.{all_below, map_from}

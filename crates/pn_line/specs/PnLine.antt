@@ -6,18 +6,20 @@ use Rattle.config.specs.declared.Config.{Config}
 use Rattle.fields.specs.Fields.{tab}
 use Rattle.fields.specs.Numbers.{tokens_of}
 use Rattle.hex_bytes.specs.Hex.{hex_pairs}
-use Rattle.settings.specs.declared.Setting.{Setting}
-use Rattle.settings.specs.Settings.{all_numbers, is_flag, is_line, name_of, table_of}
+use Rattle.names.specs.declared.Name.{Name}
+use Rattle.names.specs.declared.Name.TheVariants.{Pn}
+use Rattle.names.specs.Names.{is_name}
+use Rattle.settings.specs.Settings.{Setting, all_numbers, is_flag, is_line, name_of, table_of}
 
 -- PN among the names, and how many fields the line has
-abbrev pub pn_name : ℕ
-pn_name = 14
+abbrev pub pn_name : Name
+pn_name = Pn
 
 abbrev pub pn_fields : ℕ
 pn_fields = 6
 
 unfoldable pub is_partial : List ℕ → Bool
-is_partial l = eqb (name_of l) pn_name
+is_partial l = is_name (name_of l) pn_name
 
 -- what stands behind the first tab; nothing where there is none
 unfoldable pub behind_tab : List ℕ → List ℕ

@@ -6,6 +6,7 @@
 #![tactic(auto)]
 
 ghost use Rattle.std.specs.Prelude.{◌≡◌};
+ghost use Rattle.settings.specs.Settings.{given};
 ghost use Rattle.pn_line.specs.PnLine.{
   behind_tab,
   is_mask,
@@ -17,7 +18,7 @@ ghost use Rattle.pn_line.specs.PnLine.{
 };
 
 use config::{Config, PDU_MOST, Partial, Times};
-use settings::Setting;
+use names::Name;
 
 // How many fields the line has.
 const PN_FIELDS: usize = 6;
@@ -26,7 +27,7 @@ const PN_FIELDS: usize = 6;
 pub fn is_partial(l: &[u8]) -> bool
     ensures { result ≡ is_partial l.now }
 {
-    settings::name_of(l) == names::PN
+    settings::name_of(l) == Some(Name::Pn)
 }
 
 // What stands behind the first tab; nothing where there is none, since no part begins past the end.
@@ -73,23 +74,11 @@ fn with_partial(
 ) -> Config
     ensures { result ≡ with_partial c t.now pairs mask.now }
 {
-    let layout = c.layout;
     Config {
-        period: c.period,
         times: Times {
-            timeout: c.times.timeout,
-            wait: c.times.wait,
-            repeat: c.times.repeat,
-            cycle: c.times.cycle,
-            offset: c.times.offset,
-            fast: c.times.fast,
-            remote: c.times.remote,
             reset: t[3],
+            ..c.times
         },
-        immediate: c.immediate,
-        node: c.node,
-        passive: c.passive,
-        layout,
         pn: Partial {
             on: true,
             start: t[1],
@@ -98,22 +87,25 @@ fn with_partial(
             masked: pairs as u64,
             mask: *mask,
         },
+        ..c
     }
 }
 
-// What a PN line says, behind the configuration of line 1.
-pub fn read_partial(c: Config, l: &[u8]) -> Setting
-    ensures { result ≡ read_partial c l.now }
+// The configuration that a PN line gives, behind that of line 1.
+pub fn read_partial(c: Config, l: &[u8]) -> Option<Config>
+    ensures { result ≡ given (read_partial c l.now) }
 {
     let mut t = [0u64; settings::CFG_FIELDS];
     let n = fields::tokens(l, &mut t);
     let mut mask = [0u8; PDU_MOST];
     let hex = mask_text(l);
     let pairs = hex_bytes::hex_pairs(hex, &mut mask);
-    Setting {
-        readable: settings::is_line(l, names::PN, PN_FIELDS, n)
-            & partial_reads(&t)
-            & is_mask(pairs, hex.len()),
-        config: with_partial(c, &t, pairs, &mask),
+    if settings::is_line(l, Name::Pn, PN_FIELDS, n)
+        & partial_reads(&t)
+        & is_mask(pairs, hex.len())
+    {
+        Some(with_partial(c, &t, pairs, &mask))
+    } else {
+        None
     }
 }

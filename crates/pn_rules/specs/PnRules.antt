@@ -1,7 +1,7 @@
 -- Rule 8 of a configuration: the PN range, the mask and the reset time. Assumes nothing.
 use Rattle.std.specs.Prelude.{◌+◌, Bool, cond, not, ◌&&◌, ◌||◌, leb, ltb, eqb}
 use Rattle.config.specs.declared.Config.{Config}
-use Rattle.config.specs.declared.Ticks.{Ticks}
+use Rattle.config.specs.Times.{Ticks}
 use Rattle.config.specs.Ranges.{off, header_length}
 
 -- 8: the PN range, the mask and the reset time with PN on; none of them with PN off

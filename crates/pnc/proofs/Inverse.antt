@@ -9,12 +9,11 @@ use Rattle.choice.proofs.Tests.{and_left, and_right}
 use Rattle.pnc.specs.declared.PncNumber.{PncNumber}
 use Rattle.pnc.specs.declared.VectorBit.{VectorBit}
 use Rattle.pnc.specs.declared.PnRange.{PnRange}
-use Rattle.pnc.specs.declared.NumberOf.TheVariants.{Number, NoBit}
-use Rattle.pnc.specs.declared.BitOf.TheVariants.{Bit, NoPnc}
+use Rattle.std.specs.Prelude.{Some, None}
 use Rattle.pnc.specs.Pnc.{pnc_of, number_in, bit_in, Inverse}
 
 -- a bit of the vector has a number of the range, and that number the bit
-there : (r : PnRange) (b : VectorBit) → b.0 < 8 * r.length → bit_in r (record { 0 = pnc_of r.start b.0 }) ≡ Bit b
+there : (r : PnRange) (b : VectorBit) → b.0 < 8 * r.length → bit_in r (record { 0 = pnc_of r.start b.0 }) ≡ Some b
 unfolding bit_in
 there r b h =
     let e : pnc_of r.start b.0 - 8 * r.start ≡ b.0 = omega arith in
@@ -25,7 +24,7 @@ there r b h =
     )
 
 back : (r : PnRange) (p : PncNumber) → 8 * r.start ≤ p.0 → p.0 < 8 * (r.start + r.length)
-    → number_in r (record { 0 = p.0 - 8 * r.start }) ≡ Number p
+    → number_in r (record { 0 = p.0 - 8 * r.start }) ≡ Some p
 unfolding number_in
 back r p a b =
     let e : pnc_of r.start (p.0 - 8 * r.start) ≡ p.0 = omega arith in
@@ -40,14 +39,14 @@ inverse r =
     }
   where
     go : (b : VectorBit) (p : PncNumber) (t : Bool) → ltb b.0 (8 * r.length) ≡ t
-        → cond t (Number (record { 0 = pnc_of r.start b.0 })) NoBit ≡ Number p → bit_in r p ≡ Bit b
+        → cond t (Some (record { 0 = pnc_of r.start b.0 })) None ≡ Some p → bit_in r p ≡ Some b
     go b p true h e =
         let q : p ≡ record { 0 = pnc_of r.start b.0 } = cc in rw q (there r b (ltb-true b.0 (8 * r.length) h))
     go b p false h e = absurd (let z : ◌≡◌ {A = ℕ} 0 1 = cc in omega arith)
 
     og : (p : PncNumber) (b : VectorBit) (t : Bool)
         → (leb (8 * r.start) p.0 && ltb p.0 (8 * (r.start + r.length))) ≡ t
-        → cond t (Bit (record { 0 = p.0 - 8 * r.start })) NoPnc ≡ Bit b → number_in r b ≡ Number p
+        → cond t (Some (record { 0 = p.0 - 8 * r.start })) None ≡ Some b → number_in r b ≡ Some p
     og p b true h e =
         let q : b ≡ record { 0 = p.0 - 8 * r.start } = cc in
         let low = leb (8 * r.start) p.0 in

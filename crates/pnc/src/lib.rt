@@ -24,21 +24,8 @@ pub struct PnRange {
     pub length: u16,
 }
 
-#[derive(Clone, Copy)]
-pub enum NumberOf {
-    Number(PncNumber),
-    // The vector has no such bit.
-    NoBit,
-}
-
-#[derive(Clone, Copy)]
-pub enum BitOf {
-    Bit(VectorBit),
-    // The PNC lies outside the range.
-    NoPnc,
-}
-
-// The PN range of a configuration.
+// The PN range of a configuration. Not a `From`: the name says which part of it.
+#[tactic(auto, unfolding(crate::specs::Pnc::range_of))]
 pub fn range_of(c: Config) -> PnRange
     ensures { result ≡ range_of c }
 {
@@ -48,43 +35,43 @@ pub fn range_of(c: Config) -> PnRange
     }
 }
 
-// The PNC number of a bit, 0 where the vector has no such bit.
+// The PNC number of a bit, 0 where the vector has no such bit. No `Option`: the status promises a number, 0 for none.
 pub fn number_or_zero(b: VectorBit, range: PnRange) -> u32
     ensures { result ≡ number_or_zero (number_in range b) }
 {
-    let n = b.number(range);
-    match n {
-        NumberOf::Number(p) => p.0,
-        NumberOf::NoBit => 0,
-    }
+    b.number(range).map_or(0, |number| number.0)
 }
 
 impl VectorBit {
-    pub fn number(self, range: PnRange) -> NumberOf
+    // The PNC number of a bit, if the vector has such a bit.
+    #[tactic(auto, unfolding(crate::specs::Pnc::number_in))]
+    pub fn number(self, range: PnRange) -> Option<PncNumber>
         ensures { result ≡ number_in range self }
     {
         let b = self.0;
         let start = range.start as u32;
         let length = range.length as u32;
         if b < 8 * length {
-            return NumberOf::Number(PncNumber(8 * (start + b / 8) + b % 8));
+            Some(PncNumber(8 * (start + b / 8) + b % 8))
+        } else {
+            None
         }
-        NumberOf::NoBit
     }
 }
 
 impl PncNumber {
-    pub fn bit(self, range: PnRange) -> BitOf
+    // The bit of a PNC, if it lies in the range.
+    #[tactic(auto, unfolding(crate::specs::Pnc::bit_in))]
+    pub fn bit(self, range: PnRange) -> Option<VectorBit>
         ensures { result ≡ bit_in range self }
     {
         let p = self.0;
         let start = range.start as u32;
         let length = range.length as u32;
-        if 8 * start <= p {
-            if p < 8 * (start + length) {
-                return BitOf::Bit(VectorBit(p - 8 * start));
-            }
+        if 8 * start <= p && p < 8 * (start + length) {
+            Some(VectorBit(p - 8 * start))
+        } else {
+            None
         }
-        BitOf::NoPnc
     }
 }

@@ -1,11 +1,11 @@
 -- Laws of bytes in hex, for every place. Assumes nothing.
-use mathlib.Core.Path.{◌≡◌, refl}
-use mathlib.Core.List.{List, [], ◌∷◌}
-use Prim.Native.Nat.{ℕ, suc, ◌+◌, ◌-◌, ◌*◌, ◌/◌, ◌%◌, ◌≤◌, ◌<◌}
+use mathlib.Core.Path.{◌≡◌, refl, ap}
+use mathlib.Core.List.{List, [], ◌∷◌, ◌++◌}
+use Prim.Native.Nat.{ℕ, ◌+◌, ◌-◌, ◌*◌, ◌/◌, ◌%◌, ◌≤◌, ◌<◌}
 use native.Mathlib.Numerals.{add-one}
 use native.Mathlib.Omega.{arith}
-use lib.ListN.{length, drop, get_or, set, drop_of_length-le}
-use lib.Seq.{drop-cons, sets}
+use lib.ListN.{length, take, get_or}
+use lib.Seq.{take-suc}
 use borrow.Author.Tests.{lt-ltb, le-ltb}
 use Rattle.print.specs.Print.{hex_digit, hex_text}
 
@@ -21,16 +21,12 @@ unfolding hex_text
 length_hex [] = refl
 length_hex (b ∷ bs) = let e : length (hex_text bs) ≡ 2 * length bs = length_hex bs in omega arith
 
-module _ (out : List ℕ) (p : ℕ) (bytes : List ℕ) (i : ℕ) where
-  -- no byte is left
-  pub hex_end : length bytes ≤ i → sets out p (hex_text (drop i bytes)) ≡ out
-  unfolding hex_text
-  hex_end h = rw (drop_of_length-le bytes h)
+hex_append : (bytes more : List ℕ) → hex_text (bytes ++ more) ≡ hex_text bytes ++ hex_text more
+unfolding hex_text
+hex_append [] more = refl
+hex_append (b ∷ bs) more = ap (λ l. hex_digit (b / 16) ∷ hex_digit (b % 16) ∷ l) (hex_append bs more)
 
-  -- one byte is written, by its digits
-  pub hex_more : {h l : ℕ} → i < length bytes → h ≡ hex_digit (get_or bytes i 0 / 16) → l ≡ hex_digit (get_or bytes i 0 % 16)
-      → sets out p (hex_text (drop i bytes)) ≡ sets (set (set out p h) (p + 1) l) (p + 2) (hex_text (drop (i + 1) bytes))
-  unfolding hex_text
-  hex_more r e f =
-      let a : p + 2 ≡ suc (suc p) = omega arith in
-      rw (drop-cons bytes i 0, add-one, add-one, a, e, f)
+-- one byte more
+pub hex_more : (bytes : List ℕ) (i : ℕ) → i < length bytes
+    → hex_text (take (i + 1) bytes) ≡ hex_text (take i bytes) ++ hex_text (get_or bytes i 0 ∷ [])
+hex_more bytes i h = rw (add-one i, take-suc bytes i 0 h) (hex_append (take i bytes) (get_or bytes i 0 ∷ []))

@@ -1,17 +1,16 @@
 -- Laws of numbers in decimal. Assumes nothing.
-use mathlib.Core.Path.{◌≡◌, refl, sym, ap, ◌∙◌}
+use mathlib.Core.Path.{◌≡◌, refl, ap}
 use mathlib.Core.Bool.{Bool, true, false}
-use mathlib.Core.List.{List, [], ◌∷◌, ◌++◌}
-use Prim.Native.Nat.{ℕ, zero, suc, ◌+◌, ◌-◌, ◌*◌, ◌/◌, ◌%◌, ◌^◌, ◌≤◌, ◌<◌}
-use native.Mathlib.Nat.{pow-suc, pow-succ', pow-le-pow_right, div-lt_iff_lt-mul, div-div-eq-div-mul, div-one, div-le_self, le-div_iff_mul-le}
+use mathlib.Core.List.{List, [], ◌∷◌, ◌++◌, append-nil, append_assoc}
+use Prim.Native.Nat.{ℕ, zero, suc, ◌+◌, ◌*◌, ◌/◌, ◌%◌, ◌^◌, ◌≤◌, ◌<◌}
+use native.Mathlib.Nat.{pow-suc, pow-le-pow_right, div-lt_iff_lt-mul, div-le_self, le-div_iff_mul-le, mod-eq_of_lt}
 use native.Mathlib.Numerals.{add-one}
 use native.Mathlib.Omega.{arith}
 use lib.Dec.{ltb}
-use lib.ListN.{length, set, length-append}
-use lib.Seq.{sets}
-use borrow.Author.Tests.{lt-ltb, le-ltb}
+use lib.ListN.{length, drop, set, length-append, drop_of_length-le}
+use borrow.Author.Tests.{lt-ltb, le-ltb, ltb-true}
 use Rattle.print.specs.Print.{decimal, digits_most, number_text}
-use Rattle.print.proofs.Wrote.{sets_last}
+use Rattle.std.proofs.lemmas.List.{drop-set}
 
 -- a number has no more digits than are asked for
 length_decimal : (k n : ℕ) → length (decimal k n) ≤ k
@@ -51,53 +50,38 @@ number_long n h e = rw (le-ltb n 10 e) (ap (λ (l : List ℕ). l ++ ((48 + n % 1
 pub length_long : (n : ℕ) → n < 10 ^ digits_most → 9 < n → length (number_text n) ≡ 1 + length (number_text (n / 10))
 length_long n h e = rw (number_long n h e, length-append) (omega arith)
 
--- a power of ten is not 0
-pub power_some : (w : ℕ) → 1 ≤ 10 ^ w
-power_some w = pow-le-pow_right {n = 10} (omega arith) {i = 0} {j = w} (omega arith)
-
-module _ (n w : ℕ) {p : ℕ} (power : p ≡ 10 ^ (w + 1)) where
-  -- of a number below 10 ^ (w + 1) one digit is left behind w of them
-  pub width_one : n < p → length (number_text (n / 10 ^ w)) ≡ 1
-  width_one h =
-      let e : p ≡ 10 * 10 ^ w = power ∙ rw (add-one w) (pow-succ' 10 w) in
-      let l : n / 10 ^ w < 10 = (div-lt_iff_lt-mul {k = 10 ^ w} {y = 10} (power_some w)).1 (omega arith) in
-      ap length (number_short (n / 10 ^ w) (omega arith))
-
-  -- of any other one digit, and those behind it
-  pub width_more : n < 10 ^ digits_most → p ≤ n → length (number_text (n / 10 ^ w)) ≡ 1 + length (number_text (n / 10 ^ (w + 1)))
-  width_more b h =
-      let e : p ≡ 10 * 10 ^ w = power ∙ rw (add-one w) (pow-succ' 10 w) in
-      let l : 10 ≤ n / 10 ^ w = (le-div_iff_mul-le {k = 10 ^ w} {x = 10} (power_some w)).1 (omega arith) in
-      let d : n / 10 ^ (w + 1) ≡ n / 10 ^ w / 10 = rw (add-one w, pow-suc 10 w) (sym (div-div-eq-div-mul n (10 ^ w) 10)) in
-      rw d (length_long (n / 10 ^ w) (omega (arith, div-le_self n (10 ^ w))) l)
-
--- behind the 18th, two where one is too few
-pub width_last : (n w : ℕ) {p : ℕ} → p ≡ 10 ^ (w + 1) → n < 10 ^ digits_most → w ≡ 18 → p ≤ n → length (number_text (n / 10 ^ w)) ≡ 2
-width_last n w power b s h =
-    let e : n / 10 ^ (w + 1) ≡ n / 10 ^ 19 = rw s in
-    width_more n w power b h ∙ rw (e, width_one n 19 refl b)
-
-pub width_start : (n : ℕ) → length (number_text n) ≡ 0 + length (number_text (n / 10 ^ 0))
-width_start n = rw (div-one n) (omega arith)
-
--- the powers of ten up to the 19th have 64 bits
-pub power_small : (w : ℕ) → w < 18 → 10 ^ (w + 1) * 10 < 2 ^ 64
-power_small w h = let p : 10 ^ (w + 1) ≤ 10 ^ 18 = pow-le-pow_right {n = 10} (omega arith) {i = w + 1} {j = 18} (omega arith) in omega arith
-
-pub power_more : (w : ℕ) {p : ℕ} → p ≡ 10 ^ (w + 1) → p * 10 ≡ 10 ^ (w + 1 + 1)
-power_more w e = rw (e, add-one (w + 1)) (sym (pow-suc 10 (w + 1)))
+-- a number between two powers of ten has a digit more than the lower one has zeros
+pub width_of : (k n : ℕ) → n < 10 ^ digits_most → 10 ^ k ≤ n → n < 10 * 10 ^ k → length (number_text n) ≡ k + 1
+width_of zero n b p h = ap length (number_short n (omega arith))
+width_of (suc k) n b p h =
+    let e : 10 ^ suc k ≡ 10 ^ k * 10 = pow-suc 10 k in
+    let s : 1 ≤ 10 ^ k = pow-le-pow_right {n = 10} (omega arith) {i = 0} {j = k} (omega arith) in
+    let l : 10 ^ k ≤ n / 10 = (le-div_iff_mul-le {k = 10} {x = 10 ^ k} (omega arith)).1 (omega arith) in
+    let m : n / 10 < 10 * 10 ^ k = (div-lt_iff_lt-mul {k = 10} {y = 10 * 10 ^ k} (omega arith)).1 (omega arith) in
+    omega (arith, length_long n b (omega arith), width_of k (n / 10) (omega (arith, div-le_self n 10)) l m)
 
 -- ---- a number written from its last digit on
 
-module _ (l : List ℕ) (at n : ℕ) where
-  -- the last digit, in the place before i, which is behind the number
-  module _ (i : ℕ) (fits : n < 10 ^ digits_most) (long : 9 < n) (behind : i ≡ at + length (number_text n)) where
-    pub one_less : i - 1 ≡ at + length (number_text (n / 10))
-    one_less = omega (arith, length_long n fits long)
+-- the last k digits, leading zeros counted
+pub last_digits : ℕ → ℕ → List ℕ
+last_digits zero n = []
+last_digits (suc k) n = last_digits k (n / 10) ++ ((48 + n % 10) ∷ [])
 
-    pub last_digit : {d : ℕ} → d ≡ 48 + n % 10 → sets l at (number_text n) ≡ sets (set l (i - 1) d) at (number_text (n / 10))
-    last_digit {d} e = rw (number_long n fits long, ← e, one_less) (sets_last l at d (number_text (n / 10)))
+decimal_digits : (k n : ℕ) → decimal k n ≡ last_digits (length (decimal k n)) n
+unfolding decimal last_digits
+decimal_digits zero n = refl
+decimal_digits (suc k) n = by_test (ltb n 10) refl (decimal_digits k (n / 10))
+  where
+    by_test : (t : Bool) → ltb n 10 ≡ t → decimal k (n / 10) ≡ last_digits (length (decimal k (n / 10))) (n / 10)
+        → decimal (suc k) n ≡ last_digits (length (decimal (suc k) n)) n
+    by_test true e h = let m : n % 10 ≡ n = mod-eq_of_lt (ltb-true n 10 e) in rw (e, m) refl
+    by_test false e h = rw (e, length-append, add-one) (ap (λ (l : List ℕ). l ++ ((48 + n % 10) ∷ [])) h)
 
-  -- the only digit
-  pub only_digit : {d : ℕ} → n ≤ 9 → d ≡ 48 + n → sets l at (number_text n) ≡ set l at d
-  only_digit h e = rw (number_short n h, e)
+pub digits_start : (n : ℕ) (l : List ℕ) → length l ≡ length (number_text n) → number_text n ≡ last_digits (length l) n ++ drop (length l) l
+digits_start n l e = rw (drop_of_length-le l {i = length l} (omega arith), append-nil, e) (decimal_digits digits_most n)
+
+-- one digit is written before those that stand
+pub digits_more : (i j n : ℕ) (l : List ℕ) {d : ℕ} → i + 1 ≡ j → j ≤ length l → d ≡ 48 + n % 10
+    → last_digits j n ++ drop j l ≡ last_digits i (n / 10) ++ drop i (set l i d)
+unfolding last_digits
+digits_more i j n l b h e = rw (← b, e, drop-set l i _ (omega arith), add-one i) (append_assoc (last_digits i (n / 10)) _ _)

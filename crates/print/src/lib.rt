@@ -1,38 +1,17 @@
 // Writers into a lent buffer: bytes, numbers in decimal, byte strings in hex.
 //
-// Promises: each writer leaves its text in the buffer from the given place on, answers the place behind it, and
-// changes no other byte (`Wrote`). Leaves to others: that the buffer has room, which the place behind a text needs in
-// any case, so that no writer tests it byte by byte; and what a line prints.
+// Promises: each method of a `Writer` leaves its text in the buffer behind what is written there, and changes no other byte
+// (`Puts`). Leaves to others: that the buffer has room, which the place behind a text needs in any case, so that no method
+// tests it byte by byte; and what a line prints.
 #![tactic(auto)]
 
-ghost use Rattle.std.specs.Prelude.{◌≡◌, [], ◌∷◌, ◌+◌, ◌*◌, ◌≤◌, ◌<◌, length};
-ghost use Rattle.print.specs.Print.{Wrote, digits_most, hex_digit, hex_text, number_text};
-
-// ---- bytes
+ghost use Rattle.std.specs.Prelude.{◌≡◌, [], ◌∷◌, ◌+◌, ◌*◌, ◌<◌, length};
+ghost use Rattle.print.specs.Print.{HasRoom, Puts, digits_most, hex_digit, hex_text, number_text};
 
 // The byte for a field without content.
 pub const DASH: u8 = b'-';
 
-// One byte. There must be room for it.
-pub fn put(out: &mut [u8], at: usize, b: u8) -> usize
-    requires { at < length out.old }
-    ensures { Wrote out.old at (b ∷ []) out.new result }
-{
-    out[at] = b;
-    at + 1
-}
-
-// Two bytes. There must be room for both.
-pub fn put_pair(out: &mut [u8], at: usize, a: u8, b: u8) -> usize
-    requires { at + 2 ≤ length out.old }
-    ensures { Wrote out.old at (a ∷ b ∷ []) out.new result }
-{
-    out[at] = a;
-    out[at + 1] = b;
-    at + 2
-}
-
-// ---- numbers
+// ---- digits
 
 // The byte of a digit.
 fn digit(d: u64) -> u8
@@ -42,44 +21,6 @@ fn digit(d: u64) -> u8
     b'0' + d as u8
 }
 
-// How many digits a number has. Found by comparing, which costs less than dividing.
-fn width(n: u64) -> usize
-    ensures { result ≡ length (number_text n) }
-{
-    let mut w: usize = 0;
-    let mut p: u64 = 10;
-    while w < 18 {
-        if n < p {
-            return w + 1;
-        }
-        p = p * 10;
-        w += 1;
-    }
-    if n < p {
-        return w + 1;
-    }
-    w + 2
-}
-
-// A number in decimal, without leading zeros. There must be room for the longest one.
-pub fn put_number(out: &mut [u8], at: usize, n: u64) -> usize
-    requires { at + digits_most ≤ length out.old }
-    ensures { Wrote out.old at (number_text n) out.new result }
-{
-    let end = at + width(n);
-    let mut i = end;
-    let mut m = n;
-    while 9 < m {
-        i -= 1;
-        out[i] = digit(m % 10);
-        m = m / 10;
-    }
-    out[at] = digit(m);
-    end
-}
-
-// ---- hex
-
 // The byte of a hex digit.
 fn hex_digit(d: u8) -> u8
     requires { d < 16 }
@@ -88,19 +29,85 @@ fn hex_digit(d: u8) -> u8
     if d < 10 { b'0' + d } else { b'A' + (d - 10) }
 }
 
-// Bytes in hex, upper case. There must be room for two digits of each.
-pub fn put_hex(out: &mut [u8], at: usize, bytes: &[u8]) -> usize
-    requires { at + 2 * length bytes.now ≤ length out.old }
-    ensures { Wrote out.old at (hex_text bytes.now) out.new result }
+// How many digits a number has.
+fn width(n: u64) -> usize
+    ensures { result ≡ length (number_text n) }
 {
-    let mut p = at;
-    let mut i = 0;
-    while i < bytes.len() {
-        let b = bytes[i];
-        out[p] = hex_digit(b / 16);
-        out[p + 1] = hex_digit(b % 16);
-        p += 2;
-        i += 1;
+    match n.checked_ilog10() {
+        Some(k) => k as usize + 1,
+        None => 1,
     }
-    p
+}
+
+// A number in decimal, in as many bytes as it has digits.
+fn fill_digits(digits: &mut [u8], n: u64)
+    requires { length digits.old ≡ length (number_text n) }
+    ensures { digits.new ≡ number_text n }
+{
+    let mut m = n;
+    for i in (0..digits.len()).rev() {
+        digits[i] = digit(m % 10);
+        m /= 10;
+    }
+}
+
+// ---- the writer
+
+// A lent buffer, and the place behind what is written in it. No `Display` for numbers and hex: it would test the room in each
+// write, which `HasRoom` has proved.
+#[derive(Drop)]
+pub struct Writer<'a> {
+    pub out: &'a mut [u8],
+    pub at: usize,
+}
+
+impl Writer<'_> {
+    // One byte.
+    pub fn put(&mut self, b: u8)
+        requires { HasRoom self.old 1 }
+        ensures { Puts self.old (b ∷ []) self.new }
+    {
+        self.out[self.at] = b;
+        self.at += 1;
+    }
+
+    // Two bytes.
+    pub fn put_pair(&mut self, a: u8, b: u8)
+        requires { HasRoom self.old 2 }
+        ensures { Puts self.old (a ∷ b ∷ []) self.new }
+    {
+        self.out[self.at] = a;
+        self.out[self.at + 1] = b;
+        self.at += 2;
+    }
+
+    // Bytes as they are.
+    pub fn put_all(&mut self, bytes: &[u8])
+        requires { HasRoom self.old (length bytes.now) }
+        ensures { Puts self.old bytes.now self.new }
+    {
+        let end = self.at + bytes.len();
+        self.out[self.at..end].copy_from_slice(bytes);
+        self.at = end;
+    }
+
+    // A number in decimal, without leading zeros. There must be room for the longest one.
+    pub fn put_number(&mut self, n: u64)
+        requires { HasRoom self.old digits_most }
+        ensures { Puts self.old (number_text n) self.new }
+    {
+        let end = self.at + width(n);
+        fill_digits(&mut self.out[self.at..end], n);
+        self.at = end;
+    }
+
+    // Bytes in hex, upper case. There must be room for two digits of each.
+    pub fn put_hex(&mut self, bytes: &[u8])
+        requires { HasRoom self.old (2 * length bytes.now) }
+        ensures { Puts self.old (hex_text bytes.now) self.new }
+    {
+        for b in bytes {
+            self.put_pair(hex_digit(*b / 16), hex_digit(*b % 16));
+        }
+    }
 }

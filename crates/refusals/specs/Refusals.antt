@@ -1,7 +1,7 @@
 -- What a call is refused with, a row of the table each, and their order. Assumes nothing.
-use Rattle.std.specs.Prelude.{Bool, true, false, cond, not, eqb, leb, length}
-use Rattle.answers.specs.declared.Answer.{Answer}
-use Rattle.answers.specs.declared.Answer.TheVariants.{Done, Unsound, Rule, State, Passive, Length, PnOff}
+use Rattle.std.specs.Prelude.{Bool, false, cond, not, eqb, leb, length, Err, is_ok}
+use Rattle.answers.specs.Answers.{Answer, Done}
+use Rattle.answers.specs.declared.Refusal.TheVariants.{Unsound, State, Passive, Length, PnOff}
 use Rattle.config.specs.declared.Config.{Config}
 use Rattle.config.specs.Ranges.{user_length_of}
 use Rattle.states.specs.declared.State
@@ -79,21 +79,16 @@ refused_length c (main_function taken room) = not (leb c.layout.length room)
 
 -- the order: 4, 6, 3, 5
 abbrev pub first_of : Bool → Bool → Bool → Bool → Answer
-first_of passive off here size = cond passive Passive (cond off PnOff (cond here State (cond size Length Done)))
+first_of passive off here size =
+    cond passive (Err Passive) (cond off (Err PnOff) (cond here (Err State) (cond size (Err Length) Done)))
 
 -- the one refusal function, for the channel in its state and for the state that the calls alone show
 unfoldable pub refusal : Config → State.State → Call → Answer
 refusal c s x = first_of (refused_passive c x) (refused_pn_off c x) (refused_state s x) (refused_length c x)
 
 abbrev pub is_done : Answer → Bool
-is_done Done = true
-is_done Unsound = false
-is_done (Rule k) = false
-is_done State = false
-is_done Passive = false
-is_done Length = false
-is_done PnOff = false
+is_done a = is_ok a
 
 -- 1 comes first
 abbrev pub judged : Bool → Answer → Answer
-judged sound a = cond sound a Unsound
+judged sound a = cond sound a (Err Unsound)

@@ -10,8 +10,7 @@ use Rattle.channel.specs.declared.state.Channel.{Channel}
 use Rattle.channel.specs.declared.state.Reply.{Reply}
 use Rattle.channel.specs.Channel.{frame_after, replied, traffic_moved}
 use Rattle.command_names.specs.declared.Command.{Command}
-use Rattle.command_names.specs.declared.Asked.{Asked}
-use Rattle.command_names.specs.declared.Asked.TheVariants.{Unreadable, Call}
+use Rattle.std.specs.Prelude.{Option, Some, None}
 use Rattle.config.specs.declared.Config.{Config}
 use Rattle.config.specs.Ranges.{user_start_of, pdu_most}
 use Rattle.decision.specs.Decision as calls
@@ -20,7 +19,7 @@ use Rattle.layout.specs.Fields.{Fields}
 use Rattle.layout.specs.Layout.{frame_of}
 use Rattle.layout.proofs.Lengths.{laid_length}
 use Rattle.report.specs.Report.{letter_of, report_most}
-use Rattle.report.proofs.Line.{length_line}
+use Rattle.report.proofs.Lengths.{length_line}
 use Rattle.dispatch.specs.Calls.{call_for, carried_out_by}
 use Rattle.runs.specs.declared.Run.{Run}
 use Rattle.runs.specs.Runs.{digit_of, sent_bytes}
@@ -65,6 +64,6 @@ pub later_le : (run : Run) (l : List ℕ) → length (later_line run l).text ≤
 unfolding later_line
 later_le run l = by_asked (reading_of l).asked (reading_of l).bytes
   where
-    by_asked : (a : Asked) (bytes : List ℕ) → length (doing run a bytes).text ≤ report_most + 2 * pdu_most
-    by_asked Unreadable bytes = omega (arith, unread_le run)
-    by_asked (Call k) bytes = reply_le run k bytes
+    by_asked : (a : Option Command) (bytes : List ℕ) → length (doing run a bytes).text ≤ report_most + 2 * pdu_most
+    by_asked None bytes = omega (arith, unread_le run)
+    by_asked (Some k) bytes = reply_le run k bytes

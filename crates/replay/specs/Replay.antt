@@ -1,34 +1,24 @@
 -- What a line behind the configuration comes to: the run after it, and the text that it prints. Assumes nothing.
 use Rattle.std.specs.Prelude.{List, ℕ, replicate}
 use Rattle.answers.specs.Answers.{number_of}
+use Rattle.channel.specs.declared.state.Channel.{Channel}
 use Rattle.channel.specs.declared.state.Reply.{Reply}
 use Rattle.channel.specs.Channel.{Ticked}
-use Rattle.channel.specs.Parts.{channel_of}
 use Rattle.command_names.specs.declared.Command.{Command}
-use Rattle.command_names.specs.declared.Asked.{Asked}
-use Rattle.command_names.specs.declared.Asked.TheVariants.{Unreadable, Call}
+use Rattle.std.specs.Prelude.{Option, Some, None}
 use Rattle.commands.specs.Commands.{Reading, reading}
-use Rattle.config.specs.declared.Config.{Config}
-use Rattle.config.specs.declared.Ticks.{Ticks}
 use Rattle.config.specs.Ranges.{pdu_most}
-use Rattle.states.specs.declared.Mode.{Mode}
-use Rattle.states.specs.declared.Traffic.{Traffic}
 use Rattle.report.specs.Report.{letter_of, line_text}
 use Rattle.dispatch.specs.Calls.{call_for, carried_out_by}
 use Rattle.runs.specs.declared.Phase.TheVariants.{Running}
 use Rattle.runs.specs.declared.Run.{Run}
-use Rattle.runs.specs.declared.Step.{Step}
 use Rattle.runs.specs.Runs.{Outcome, bare_text, counted, digit_of, outcome, passed, run_of, sent_bytes, unreadable_digit}
 
--- ---- a channel in parts
+-- ---- a channel that is kept
 
 -- a run in its calls
-abbrev pub run_in : ℕ → Config → Ticks → Mode → Traffic → List ℕ → List ℕ → List ℕ → List ℕ → Run
-run_in n c t m x user requests era eira = run_of Running n (channel_of c t m x user requests era eira)
-
--- the step that one more line is, behind n of them
-abbrev pub step_in : ℕ → Config → Ticks → Mode → Traffic → List ℕ → List ℕ → List ℕ → List ℕ → ℕ → Step
-step_in n c t m x user requests era eira at = record { run = run_in (counted n) c t m x user requests era eira; at = at }
+abbrev pub run_in : ℕ → Channel → Run
+run_in n ch = run_of Running n ch
 
 -- ---- replies
 
@@ -62,9 +52,9 @@ unfoldable pub unread : Run → Outcome
 unread run =
     outcome (passed run Running) (bare_text (counted run.lines) unreadable_digit (letter_of run.channel.own.mode.state))
 
-abbrev pub doing : Run → Asked → List ℕ → Outcome
-doing run Unreadable bytes = unread run
-doing run (Call k) bytes = called run k bytes
+abbrev pub doing : Run → Option Command → List ℕ → Outcome
+doing run None bytes = unread run
+doing run (Some k) bytes = called run k bytes
 
 unfoldable pub later_line : Run → List ℕ → Outcome
 later_line run l = doing run (reading_of l).asked (reading_of l).bytes

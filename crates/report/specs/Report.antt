@@ -6,6 +6,7 @@ use Rattle.text.specs.Lines.{line_feed}
 use Rattle.states.specs.declared.State.{State}
 use Rattle.states.specs.declared.State.TheVariants as states
 use Rattle.channel.specs.declared.state.Notes.{Notes}
+use Rattle.report.specs.declared.Line.{Line}
 use Rattle.notes_text.specs.NotesText.{notes_most, notes_text}
 
 -- the letter of a state: B P R N S
@@ -31,6 +32,12 @@ head_text n answer state = ((number_text n ++ (tab ∷ answer ∷ [])) ++ (tab �
 unfoldable pub line_text : ℕ → ℕ → ℕ → Notes → List ℕ → List ℕ
 line_text n answer state notes frame =
     (((head_text n answer state ++ notes_text notes) ++ (tab ∷ [])) ++ frame_text frame) ++ (line_feed ∷ [])
+
+abbrev pub head_of : Line → List ℕ
+head_of l = head_text l.number l.answer l.state
+
+abbrev pub text_of_line : Line → List ℕ
+text_of_line l = line_text l.number l.answer l.state l.notes l.frame.now
 
 -- the most bytes that stand before the notes, and that a line takes besides its frame
 abbrev pub head_most : ℕ

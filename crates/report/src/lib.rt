@@ -1,18 +1,20 @@
 // A line that a trace prints: number, answer, state, notes and frame.
 //
-// Promises: the text of specs/Report in the lent buffer from a place on, and no other byte changed. Leaves to others:
-// the text of the notes (`notes_text`), what a line's answer is (`replay`), and that the buffer has room. The caller counts
-// the room once for all bytes of a line (`length_line`), so that no writer tests it byte by byte.
+// Promises: the text of specs/Report is written by the writer, and nothing else. Leaves to others: the text of the notes
+// (`notes_text`), what a line's answer is (`replay`), and that the buffer has room. The caller counts the room once for all
+// bytes of a line (`length_line`), so that no writer tests it byte by byte.
 #![tactic(auto)]
 
-ghost use Rattle.std.specs.Prelude.{◌≡◌, ◌+◌, ◌*◌, ◌≤◌, length};
-ghost use Rattle.print.specs.Print.{Wrote};
-ghost use Rattle.report.specs.Report.{frame_text, head_most, head_text, letter_of, report_most, line_text};
+ghost use Rattle.std.specs.Prelude.{◌≡◌, ◌+◌, ◌*◌, length};
+ghost use Rattle.print.specs.Print.{HasRoom, Puts};
+ghost use Rattle.report.specs.Report.{frame_text, head_most, head_of, letter_of, report_most, text_of_line};
 
 use channel::state::Notes;
+use print::Writer;
 use states::State;
 
 // The letter of a state.
+#[tactic(auto, unfolding(crate::specs::Report::letter_of))]
 pub fn letter(s: State) -> u8
     ensures { result ≡ letter_of s }
 {
@@ -25,49 +27,52 @@ pub fn letter(s: State) -> u8
     }
 }
 
-// ---- the frame
-
-// The frame in hex, or the dash. There must be room for either.
-fn put_frame(out: &mut [u8], at: usize, frame: &[u8]) -> usize
-    requires { at + 1 + 2 * length frame.now ≤ length out.old }
-    ensures { Wrote out.old at (frame_text frame.now) out.new result }
-{
-    if frame.len() == 0 {
-        return print::put(out, at, print::DASH);
-    }
-    print::put_hex(out, at, frame)
-}
-
 // ---- the line
 
-// What stands before the notes. There must be room for the longest number.
-fn put_head(out: &mut [u8], at: usize, n: u64, answer: u8, state: u8) -> usize
-    requires { at + head_most ≤ length out.old }
-    ensures { Wrote out.old at (head_text n answer state) out.new result }
-{
-    let a = print::put_number(out, at, n);
-    let b = print::put_pair(out, a, fields::TAB, answer);
-    let c = print::put_pair(out, b, fields::TAB, state);
-    print::put(out, c, fields::TAB)
+// A line. The answer and the state are the bytes that are printed for them, and may be any. The frame has no byte where none was
+// sent.
+#[derive(Clone, Copy)]
+pub struct Line<'a> {
+    pub number: u64,
+    pub answer: u8,
+    pub state: u8,
+    pub notes: Notes,
+    pub frame: &'a [u8],
 }
 
-// A whole line. The answer and the state are the bytes that are printed for them. There must be room for the longest
-// line with such a frame.
-pub fn put_line(
-    out: &mut [u8],
-    at: usize,
-    n: u64,
-    answer: u8,
-    state: u8,
-    notes: Notes,
-    frame: &[u8],
-) -> usize
-    requires { at + report_most + 2 * length frame.now ≤ length out.old }
-    ensures { Wrote out.old at (line_text n answer state notes frame.now) out.new result }
-{
-    let a = put_head(out, at, n, answer, state);
-    let b = notes_text::put_notes(out, a, notes);
-    let c = print::put(out, b, fields::TAB);
-    let d = put_frame(out, c, frame);
-    print::put(out, d, text::LINE_FEED)
+impl Line<'_> {
+    // What stands before the notes. There must be room for the longest number.
+    fn put_head(&self, w: &mut Writer)
+        requires { HasRoom w.old head_most }
+        ensures { Puts w.old (head_of self.now) w.new }
+    {
+        w.put_number(self.number);
+        w.put_pair(fields::TAB, self.answer);
+        w.put_pair(fields::TAB, self.state);
+        w.put(fields::TAB);
+    }
+
+    // The frame in hex, or the dash. There must be room for either.
+    fn put_frame(&self, w: &mut Writer)
+        requires { HasRoom w.old (1 + 2 * length self.now.frame.now) }
+        ensures { Puts w.old (frame_text self.now.frame.now) w.new }
+    {
+        if self.frame.is_empty() {
+            w.put(print::DASH);
+        } else {
+            w.put_hex(self.frame);
+        }
+    }
+
+    // The whole line. There must be room for the longest line with such a frame.
+    pub fn put(&self, w: &mut Writer)
+        requires { HasRoom w.old (report_most + 2 * length self.now.frame.now) }
+        ensures { Puts w.old (text_of_line self.now) w.new }
+    {
+        self.put_head(w);
+        notes_text::put_notes(w, self.notes);
+        w.put(fields::TAB);
+        self.put_frame(w);
+        w.put(text::LINE_FEED);
+    }
 }

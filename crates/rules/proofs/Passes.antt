@@ -1,8 +1,9 @@
 -- What it says of a configuration that no rule is broken: each rule is kept. Assumes nothing.
-use mathlib.Core.Path.{◌≡◌, refl}
-use mathlib.Core.Bool.{Bool, true, false, not, ◌&&◌, ◌||◌}
-use lib.Dec.{eqb}
-use borrow.Author.Tests.{eq-eqb}
+use mathlib.Core.Path.{◌≡◌, refl, sym, ap}
+use mathlib.Core.Bool.{Bool, true, false, not, ◌&&◌, ◌||◌, false≢true}
+use Rattle.std.specs.Prelude.{Result, Ok, Err, is_ok, ⊤}
+use Rattle.answers.specs.declared.BrokenRule.{BrokenRule}
+use Rattle.answers.specs.Answers.{Done, ruled}
 use Rattle.choice.proofs.Tests.{and_left, and_right}
 use Rattle.config.specs.declared.Config.{Config}
 use Rattle.time_rules.specs.TimeRules.{ticks_for, rule1, rule2, rule3, rule4, rule5}
@@ -32,19 +33,28 @@ each p h false = and_right (p true) (p false) h
 
 -- where no test fails all eight hold, whatever their order: tried for all of their values
 abbrev all_hold : Bool → Bool → Bool → Bool → Bool → Bool → Bool → Bool → Bool
-all_hold r1 r2 r3 r4 r5 r6 r7 r8 = not (eqb (first_failed r1 r2 r3 r4 r5 r6 r7 r8) 0) || (r1 && (r2 && (r3 && (r4 && (r5 && (r6 && (r7 && r8)))))))
+all_hold r1 r2 r3 r4 r5 r6 r7 r8 = not (is_ok (first_failed r1 r2 r3 r4 r5 r6 r7 r8)) || (r1 && (r2 && (r3 && (r4 && (r5 && (r6 && (r7 && r8)))))))
 
 tried : both (λ r1. both (λ r2. both (λ r3. both (λ r4. both (λ r5. both (λ r6. both (λ r7. both (λ r8. all_hold r1 r2 r3 r4 r5 r6 r7 r8)))))))) ≡ true
 unfolding both
 tried = refl
 
-pub passes : (c : Config) → first_broken c ≡ 0 → Passes c
+-- where a judgement is ok, no rule is broken; where it is not, the answer is no done one
+pub kept : (r : Result ⊤ BrokenRule) → is_ok r ≡ true → r ≡ Ok tt
+kept (Ok tt) e = refl
+kept (Err rule) e = absurd (false≢true e)
+
+pub not_done : (r : Result ⊤ BrokenRule) → is_ok r ≡ false → ruled r ≡ Done → ⊥
+not_done (Ok tt) e d = false≢true (sym e)
+not_done (Err rule) e d = false≢true (ap is_ok d)
+
+pub passes : (c : Config) → first_broken c ≡ Ok tt → Passes c
 unfolding first_broken first_broken_by
 passes c e =
     let t = ticks_for c in
     let l = c.layout in
     let a = each _ (each _ (each _ (each _ (each _ (each _ (each _ (each _ tried (rule1 c)) (rule2 c)) (rule3 t)) (rule4 c t)) (rule5 t)) (rule6 l)) (rule7 l)) (rule8 c t) in
-    let k1 = rw (eq-eqb (first_broken c) 0 e) at a in
+    let k1 = rw e at a in
     let k2 = and_right (rule1 c) _ k1 in
     let k3 = and_right (rule2 c) _ k2 in
     let k4 = and_right (rule3 t) _ k3 in

@@ -4,22 +4,22 @@ use mathlib.Core.List.{List, []}
 use Prim.Native.Nat.{ℕ, ◌≤◌}
 use native.Mathlib.Omega.{arith}
 use lib.ListN.{length, length-take}
-use Rattle.answers.specs.declared.Answer.{Answer}
-use Rattle.answers.specs.declared.Answer.TheVariants.{Done, Unsound, Rule, State, Passive, Length, PnOff}
-use Rattle.answers.specs.Answers.{number_of}
-use Rattle.report.proofs.Line.{length_line}
+use Rattle.std.specs.Prelude.{Ok, Err}
+use Rattle.answers.specs.declared.Refusal.TheVariants.{Unsound, Rule, State, Passive, Length, PnOff}
+use Rattle.answers.specs.Answers.{Answer, number_of}
+use Rattle.report.proofs.Lengths.{length_line}
 use Rattle.runs.specs.Runs.{Outcome, bare_text, quiet, sent_bytes}
 use Rattle.report.specs.Report.{report_most}
 
 -- an answer's number has one digit
 pub number_le : (a : Answer) → number_of a ≤ 6
-number_le Done = omega arith
-number_le Unsound = omega arith
-number_le (Rule k) = omega arith
-number_le State = omega arith
-number_le Passive = omega arith
-number_le Length = omega arith
-number_le PnOff = omega arith
+number_le (Ok done) = omega arith
+number_le (Err Unsound) = omega arith
+number_le (Err (Rule rule)) = omega arith
+number_le (Err State) = omega arith
+number_le (Err Passive) = omega arith
+number_le (Err Length) = omega arith
+number_le (Err PnOff) = omega arith
 
 -- how much room a line without notes and frame takes
 pub bare_le : (n answer state : ℕ) → length (bare_text n answer state) ≤ report_most

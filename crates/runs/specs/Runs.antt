@@ -1,11 +1,11 @@
 -- A run of a trace, what a line comes to, and the printed lines that all phases of a run use. Assumes nothing.
-use Rattle.std.specs.Prelude.{◌≡◌, Bool, false, cond, List, [], ℕ, ◌+◌, ltb, take}
+use Rattle.std.specs.Prelude.{◌≡◌, Bool, false, cond, List, [], ℕ, ◌+◌, ltb, take, None}
 use Rattle.blocks.specs.Blocks.{lines_most}
 use Rattle.channel.specs.declared.state.Channel.{Channel}
 use Rattle.channel.specs.declared.state.Notes.{Notes}
 use Rattle.channel.specs.Channel.{notes}
-use Rattle.states.specs.declared.Note.TheVariants.{Nothing}
-use Rattle.print.specs.Print.{Wrote}
+use Rattle.print.specs.declared.Writer.{Writer}
+use Rattle.print.specs.Print.{Puts, Wrote}
 use Rattle.report.specs.Report.{line_text}
 use Rattle.runs.specs.declared.Phase.{Phase}
 use Rattle.runs.specs.declared.Run.{Run}
@@ -39,6 +39,11 @@ pub record Gives (o : Outcome) (l : List ℕ) (i : ℕ) (m : List ℕ) (s : Step
   pub run : s.run ≡ o.run
   pub text : Wrote l i o.text m s.at
 
+-- that run is given, and that text is put by the writer w, which makes it v
+pub record Prints (o : Outcome) (w : Writer) (r : Run) (v : Writer) : Type 0 where
+  pub run : r ≡ o.run
+  pub text : Puts w o.text v
+
 -- ---- printed lines
 
 -- the byte of an answer's number
@@ -51,7 +56,7 @@ unreadable_digit = digit_of 7
 
 -- no note
 abbrev pub quiet : Notes
-quiet = notes Nothing Nothing false false
+quiet = notes None None false false
 
 -- a line without notes and frame
 unfoldable pub bare_text : ℕ → ℕ → ℕ → List ℕ

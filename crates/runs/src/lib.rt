@@ -4,21 +4,22 @@
 // definitions of specs/Runs. Leaves to others: what a line does to the run (`config_lines`, `replay`).
 #![tactic(auto)]
 
-ghost use Rattle.std.specs.Prelude.{◌≡◌, ◌+◌, ◌≤◌, length};
+ghost use Rattle.std.specs.Prelude.{◌≡◌, ◌+◌};
+ghost use Rattle.print.specs.Print.{HasRoom, Puts};
 ghost use Rattle.answers.specs.Answers.{number_of};
-ghost use Rattle.print.specs.Print.{Wrote};
 ghost use Rattle.report.specs.Report.{letter_of, report_most};
 ghost use Rattle.runs.specs.Runs.{bare_text, counted, digit_of, passed, quiet, sent_bytes, unreadable_digit};
 
 use answers::Answer;
-use blocks::LINES_MOST;
 use channel::state::{Channel, Notes};
-use states::{Note, State};
+use print::Writer;
+use report::Line;
+use states::State;
 
 // ---- runs
 
 // What the next line is for.
-#[derive(Clone, Copy)]
+#[derive(Clone, Copy, PartialEq, Eq)]
 pub enum Phase {
     // The configuration: line 1.
     First,
@@ -47,21 +48,22 @@ pub struct Step {
 }
 
 // The count with one more line: the number of that line.
+#[tactic(auto, unfolding(crate::specs::Runs::counted))]
 pub fn counted(n: u64) -> u64
     ensures { result ≡ counted n }
 {
-    if n < LINES_MOST { n + 1 } else { n }
+    n.saturating_add(1)
 }
 
 // The run in a phase, with one more line counted.
+#[tactic(auto, unfolding(crate::specs::Runs::passed))]
 pub fn passed(run: Run, phase: Phase) -> Run
     ensures { result ≡ passed run phase }
 {
-    let channel = run.channel;
     Run {
-        phase: phase,
+        phase,
         lines: counted(run.lines),
-        channel: channel,
+        ..run
     }
 }
 
@@ -81,32 +83,41 @@ fn quiet() -> Notes
     ensures { result ≡ quiet }
 {
     Notes {
-        first: Note::Nothing,
-        second: Note::Nothing,
+        first: None,
+        second: None,
         eira: false,
         era: false,
     }
 }
 
 // A line without notes and frame. There must be room for the longest.
-pub fn put_bare(out: &mut [u8], at: usize, n: u64, answer: u8, state: u8) -> usize
-    requires { at + report_most ≤ length out.old }
-    ensures { Wrote out.old at (bare_text n answer state) out.new result }
+#[tactic(auto, unfolding(crate::specs::Runs::bare_text))]
+pub fn put_bare(w: &mut Writer, number: u64, answer: u8, state: u8)
+    requires { HasRoom w.old report_most }
+    ensures { Puts w.old (bare_text number answer state) w.new }
 {
-    report::put_line(out, at, n, answer, state, quiet(), b"")
+    let l = Line {
+        number,
+        answer,
+        state,
+        notes: quiet(),
+        frame: b"",
+    };
+    l.put(w);
 }
 
 // The line for one that can't be read, in a state. There must be room for it.
-pub fn put_unreadable(out: &mut [u8], at: usize, n: u64, state: State) -> usize
-    requires { at + report_most ≤ length out.old }
-    ensures { Wrote out.old at (bare_text n unreadable_digit (letter_of state)) out.new result }
+pub fn put_unreadable(w: &mut Writer, number: u64, state: State)
+    requires { HasRoom w.old report_most }
+    ensures { Puts w.old (bare_text number unreadable_digit (letter_of state)) w.new }
 {
-    put_bare(out, at, n, UNREADABLE_DIGIT, report::letter(state))
+    put_bare(w, number, UNREADABLE_DIGIT, report::letter(state));
 }
 
 // The bytes of a frame that are printed: the first so many if it was sent.
+#[tactic(auto, unfolding(crate::specs::Runs::sent_bytes))]
 pub fn sent_bytes<'a>(sent: bool, length: u64, frame: &'a [u8]) -> &'a [u8]
     ensures { result.now ≡ sent_bytes sent length frame.now }
 {
-    slices::part(frame, 0, choice::pick64(sent, length, 0) as usize)
+    slices::part(frame, 0, choice::pick(sent, length, 0) as usize)
 }

@@ -11,14 +11,15 @@ use states::{Mode, Traffic};
 use traffic::Setup;
 
 // Does the message timer count?
+#[tactic(auto, unfolding(crate::specs::Sending::counts))]
 fn counts(s: Setup, after: Mode) -> bool
     ensures { result ≡ counts s after }
 {
-    let state = after.state;
-    states::transmits(state) & !s.passive & after.sending
+    states::transmits(after.state) & !s.passive & after.sending
 }
 
 // Is a frame due?
+#[tactic(auto, unfolding(crate::specs::Sending::is_due))]
 pub fn is_due(s: Setup, after: Mode, x: Traffic) -> bool
     ensures { result ≡ is_due s after x }
 {
@@ -26,22 +27,27 @@ pub fn is_due(s: Setup, after: Mode, x: Traffic) -> bool
 }
 
 // The message timer and the fast count, with the driver's word.
+#[tactic(auto, unfolding(crate::specs::Sending::framing))]
 pub fn framing(s: Setup, after: Mode, taken: bool, x: Traffic) -> Traffic
     ensures { result ≡ framing s after taken x }
 {
-    let mut y = x;
-    if counts(s, after) {
-        if x.message <= 1 {
-            if taken {
-                y.message = choice::pick16(1 < x.fast, s.ticks.fast, s.ticks.cycle);
-                y.fast = ticks::down(x.fast);
-                return y;
-            }
-            y.message = choice::pick16(0 < x.fast, 1, s.ticks.cycle);
-            return y;
+    if !counts(s, after) {
+        x
+    } else if 1 < x.message {
+        Traffic {
+            message: ticks::down(x.message),
+            ..x
         }
-        y.message = ticks::down(x.message);
-        return y;
+    } else if taken {
+        Traffic {
+            message: choice::pick(1 < x.fast, s.ticks.fast, s.ticks.cycle),
+            fast: ticks::down(x.fast),
+            ..x
+        }
+    } else {
+        Traffic {
+            message: choice::pick(0 < x.fast, 1, s.ticks.cycle),
+            ..x
+        }
     }
-    y
 }

@@ -12,8 +12,7 @@ use Rattle.blocks.specs.Blocks.{cut, line_most}
 use Rattle.text.specs.Lines.{until}
 use Rattle.fields.specs.Fields.{tab}
 use Rattle.names.specs.Names.{call_of, packed}
-use Rattle.settings.specs.declared.Setting.{Setting}
-use Rattle.settings.specs.Settings.{name_of}
+use Rattle.settings.specs.Settings.{Setting, name_of}
 
 -- ---- the name
 

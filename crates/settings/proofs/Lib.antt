@@ -1,2 +1,2 @@
-mod Numbers
 pub mod Cut
+pub mod Given

@@ -8,15 +8,7 @@
 ghost use Rattle.std.specs.Prelude.{◌≡◌};
 ghost use Rattle.settings.specs.Settings.{all_numbers, is_flag, is_line, is_number, name_of};
 
-use config::Config;
-
-// What a line says. The configuration is made from what the fields read as also where the line can't be read, so that
-// one equation says all. Who finds `readable` false has no use for it.
-#[derive(Clone, Copy)]
-pub struct Setting {
-    pub readable: bool,
-    pub config: Config,
-}
+use names::Name;
 
 // How many fields line 1 has. A table of as many is enough for the PN line too, which has fewer: a line with more fields
 // is known by their count.
@@ -41,28 +33,21 @@ pub fn is_flag(x: u64) -> bool
 pub fn all_numbers(s: &[u64]) -> bool
     ensures { result ≡ all_numbers s.now }
 {
-    let mut i = 0;
-    while i < s.len() {
-        if fields::DASH <= s[i] {
-            return false;
-        }
-        i += 1;
-    }
-    true
+    s.iter().all(|x| is_number(*x))
 }
 
 // ---- lines
 
-// The number of a line's first field among the names.
-pub fn name_of(l: &[u8]) -> usize
+// The name that a line's first field spells.
+pub fn name_of(l: &[u8]) -> Option<Name>
     ensures { result ≡ name_of l.now }
 {
     names::call(slices::part(l, 0, fields::field_end(l, 0)))
 }
 
 // Is this a line of that name, with as many fields as it must have, and not too long?
-pub fn is_line(l: &[u8], name: usize, must: usize, count: usize) -> bool
+pub fn is_line(l: &[u8], name: Name, must: usize, count: usize) -> bool
     ensures { result ≡ is_line l.now name must count }
 {
-    (l.len() <= blocks::LINE_MOST) & (name_of(l) == name) & (count == must)
+    (l.len() <= blocks::LINE_MOST) & (name_of(l) == Some(name)) & (count == must)
 }

@@ -1,5 +1,6 @@
 -- Lists of calls that the claims speak of, by computation: none of the claims is empty. T = 4, W = 3 and R = 4 ticks of 10 ms.
 -- Assumes nothing.
+use Rattle.std.specs.Prelude.{Ok}
 use Prim.Native.Nat.{ℕ, zero, suc}
 use mathlib.Core.Path.{◌≡◌, refl, sym}
 use mathlib.Core.Bool.{Bool, true, false}
@@ -57,7 +58,7 @@ ticks zero = []
 ticks (suc n) = main_function true 8 ∷ ticks n
 
 -- it passes, active and passive, so that the claims hold of it
-pub example_passes : (passive : Bool) → first_broken (example passive) ≡ 0
+pub example_passes : (passive : Bool) → first_broken (example passive) ≡ Ok tt
 unfolding first_broken first_broken_by ticks_for rule1 rule2 rule3 rule4 rule5 rule6 rule7 rule8 times_within pn_range pn_time pn_absent within header_length conversion_of ticks_of
 example_passes true = refl
 example_passes false = refl

@@ -6,7 +6,7 @@ use mathlib.Core.List.{List}
 use native.Mathlib.Omega.{arith}
 use borrow.Author.Tests.{lt-leb, ne_eqb}
 use Rattle.config.specs.declared.Config.{Config}
-use Rattle.config.specs.declared.Ticks.{Ticks}
+use Rattle.config.specs.Times.{Ticks}
 use Rattle.states.specs.declared.State.TheVariants.{BusSleep, PrepareBusSleep, NormalOperation, ReadySleep}
 use Rattle.states.specs.declared.Mode.{Mode}
 use Rattle.states.specs.declared.Traffic.{Traffic}

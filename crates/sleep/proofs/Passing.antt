@@ -1,4 +1,5 @@
 -- What the proofs use of a configuration that passes, in ticks. Assumes nothing.
+use Rattle.std.specs.Result.{result_unwrap_or}
 use Prim.Native.Nat.{ℕ, zero, suc, ◌≤◌, ◌<◌}
 use mathlib.Core.Path.{◌≡◌, refl}
 use mathlib.Core.Bool.{true, ◌&&◌, ◌||◌}
@@ -10,14 +11,14 @@ use Rattle.choice.proofs.Tests.{and_left, and_right, or_cases}
 use Rattle.ticks.specs.Ticks.{conversion_of, ticks_of}
 use Rattle.ticks.proofs.Rounding.{some_tick}
 use Rattle.config.specs.declared.Config.{Config}
-use Rattle.config.specs.declared.Ticks.{Ticks}
+use Rattle.config.specs.Times.{Ticks}
 use Rattle.config.specs.Bounds.{cycle_row, fast_row, immediate_row, node_row, offset_row, remote_row, repeat_row, reset_row, timeout_row, wait_row, within}
 use Rattle.time_rules.specs.TimeRules.{in_ticks, rule1, rule2, rule3, rule4, ticks_for, times_within}
 use Rattle.rules.proofs.Passes.{Passes}
 use Rattle.sleep.proofs.Simulation.{Fit}
 
 -- a time of at least a millisecond takes at least a tick
-takes : (p ms : ℕ) → 1 ≤ p → p ≤ 100 → 1 ≤ ms → ms ≤ 65535 → 1 ≤ (conversion_of p ms).ticks
+takes : (p ms : ℕ) → 1 ≤ p → p ≤ 100 → 1 ≤ ms → ms ≤ 65535 → 1 ≤ result_unwrap_or (conversion_of p ms) 0
 unfolding conversion_of
 takes p ms a b d e = rw (le-leb 1 p a, le-leb p 100 b, le-leb ms 65535 e) (go (ticks_of p ms) refl)
   where

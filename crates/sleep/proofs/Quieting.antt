@@ -7,7 +7,7 @@ use native.Mathlib.Omega.{arith}
 use lib.Dec.{ltb}
 use borrow.Author.Tests.{le-ltb}
 use Rattle.config.specs.declared.Config.{Config}
-use Rattle.config.specs.declared.Ticks.{Ticks}
+use Rattle.config.specs.Times.{Ticks}
 use Rattle.states.specs.declared.State.TheVariants.{BusSleep, PrepareBusSleep, ReadySleep}
 use Rattle.states.specs.declared.Mode.{Mode}
 use Rattle.states.specs.State.{transmits}

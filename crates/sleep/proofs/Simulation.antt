@@ -7,7 +7,7 @@ use native.Mathlib.Omega.{arith}
 use lib.Dec.{leb, eqb}
 use borrow.Author.Tests.{lt-ltb, le-ltb, eq-eqb, ne_eqb, lt-leb}
 use Rattle.config.specs.declared.Config.{Config}
-use Rattle.config.specs.declared.Ticks.{Ticks}
+use Rattle.config.specs.Times.{Ticks}
 use Rattle.states.specs.declared.State.TheVariants.{BusSleep, PrepareBusSleep, RepeatMessage}
 use Rattle.states.specs.declared.Mode.{Mode}
 use Rattle.decision.specs.Decision.{Call, network_request, network_release, passive_start_up, repeat_message_request, disable_communication, enable_communication, tx_confirmation, rx_indication, confirm_pn_availability, set_user_data, set_pn_requests, status, main_function, rule_at, table}

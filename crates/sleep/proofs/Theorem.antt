@@ -1,5 +1,6 @@
 -- In which tick a channel sleeps: the claims of specs/Sleep, for every configuration that passes and every list of calls.
 -- Assumes nothing.
+use Rattle.std.specs.Prelude.{Ok}
 use Prim.Native.Nat.{◌≤◌}
 use mathlib.Core.Path.{◌≡◌, refl}
 use mathlib.Core.Bool.{Bool, true, false}
@@ -10,7 +11,7 @@ use lib.ListN.{take}
 use borrow.Author.Tests.{lt-ltb}
 use Rattle.timers.proofs.Timers.{within_zeros}
 use Rattle.config.specs.declared.Config.{Config}
-use Rattle.config.specs.declared.Ticks.{Ticks}
+use Rattle.config.specs.Times.{Ticks}
 use Rattle.config.specs.Ranges.{pnc_most}
 use Rattle.rules.specs.Rules.{first_broken}
 use Rattle.time_rules.specs.TimeRules.{ticks_for}
@@ -86,7 +87,7 @@ immediate_is : (c : Config) (t : Ticks) → c.immediate ≤ 255 → (setup_of c 
 unfolding setup_of
 immediate_is c t h = rw (lt-ltb c.immediate 65536 (omega arith))
 
-passed : (c : Config) → first_broken c ≡ 0 → Passed c (ticks_for c)
+passed : (c : Config) → first_broken c ≡ Ok tt → Passed c (ticks_for c)
 passed c e =
     let ok = passes c e in
     let g = tuned c ok in

@@ -1,5 +1,6 @@
 -- The whole channel: every state reached is sound, so that answer 1 is never given, and its mode runs as the mode alone.
 -- Assumes nothing.
+use Rattle.std.specs.Prelude.{Ok}
 use Prim.Native.Nat.{ℕ, zero, suc}
 use mathlib.Core.Path.{◌≡◌, refl, sym, ◌∙◌}
 use mathlib.Core.Bool.{Bool, true, false, cond, not, ◌&&◌}
@@ -11,7 +12,7 @@ use borrow.Author.Tests.{le-leb, eq-eqb}
 use Rattle.timers.specs.Timers.{counted_down, loaded_where}
 use Rattle.timers.proofs.Timers.{within_counted_down}
 use Rattle.config.specs.declared.Config.{Config}
-use Rattle.config.specs.declared.Ticks.{Ticks}
+use Rattle.config.specs.Times.{Ticks}
 use Rattle.rules.specs.Rules.{first_broken}
 use Rattle.time_rules.specs.TimeRules.{ticks_for}
 use Rattle.filter.specs.Filter.{informs}
@@ -210,7 +211,7 @@ pub data Whole (c : Config) (t : Ticks) : Channel → Summary → Type 0 where
 
 -- a configuration that passes, with its ticks
 pub record Passed (c : Config) (t : Ticks) : Type 0 where
-  pub passes : first_broken c ≡ 0
+  pub passes : first_broken c ≡ Ok tt
   pub ticks : t ≡ ticks_for c
   pub fit : Fit t
   pub tuned : Tuned t (setup_of c t).immediate
@@ -219,7 +220,7 @@ pub is_sound : {c : Config} {t : Ticks} → Passed c t → {ch : Channel} {b : S
 unfolding sound scalars_sound configured setup_of
 is_sound {c} {t} g (whole {m} {x} y k o e i) =
     rw (
-      eq-eqb (first_broken c) 0 g.passes,
+      g.passes,
       ← g.ticks,
       same_self t,
       mode_sound_law y,

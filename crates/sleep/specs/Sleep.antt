@@ -1,9 +1,9 @@
 -- In which tick a channel sleeps (demand 3): the claims, with no proof. They are stated for a channel in any host: A is what the
 -- host is called with, `mode xs` the channel's mode after the list xs, `okay xs` whether the channel is sound then, and
 -- `calls xs` the calls that have reached the channel. For a channel alone the host's calls are the channel's. Assumes nothing.
-use Rattle.std.specs.Prelude.{◌+◌, ◌≤◌, ◌≡◌, Bool, true, false, List, [], ◌∷◌, ◌++◌, ◌↔◌}
+use Rattle.std.specs.Prelude.{◌+◌, ◌≤◌, ◌≡◌, Bool, true, false, List, [], ◌∷◌, ◌++◌, ◌↔◌, Ok}
 use Rattle.config.specs.declared.Config.{Config}
-use Rattle.config.specs.declared.Ticks.{Ticks}
+use Rattle.config.specs.Times.{Ticks}
 use Rattle.rules.specs.Rules.{first_broken}
 use Rattle.time_rules.specs.TimeRules.{ticks_for}
 use Rattle.states.specs.declared.State.TheVariants.{BusSleep}
@@ -76,4 +76,4 @@ ChannelSleeps c =
 
 -- for every configuration that passes
 abbrev pub EveryChannelSleeps : Type 0
-EveryChannelSleeps = (c : Config) → first_broken c ≡ 0 → ChannelSleeps c
+EveryChannelSleeps = (c : Config) → first_broken c ≡ Ok tt → ChannelSleeps c

@@ -1,42 +1,30 @@
--- Laws of bytes stored one after the other, for any lists. Assumes nothing.
+-- Laws of elements stored one after the other, for any lists. Assumes nothing.
 use mathlib.Core.Path.{◌≡◌, refl, ap, sym, ◌∙◌}
-use mathlib.Core.Bool.{Bool, true, false}
 use mathlib.Core.List.{List, [], ◌∷◌, ◌++◌, append-nil}
 use mathlib.Core.Logic.{◌⊎◌, inl, inr}
 use Prim.Native.Nat.{ℕ, zero, suc, ◌+◌, ◌-◌, ◌<◌, ◌≤◌, min}
-use native.Mathlib.Nat.{add-zero, add-suc, suc-add, le_of_suc-le-suc, not-suc-le-zero}
-use native.Mathlib.Numerals.{add-one}
+use native.Mathlib.Nat.{min-zero, add-zero, add-suc, suc-add, le_of_suc-le-suc, not-suc-le-zero}
+use native.Mathlib.Numerals.{unary_clauses}
 use native.Mathlib.Omega.{arith}
-use lib.Dec.{leb}
 use lib.ListN.{length, get_or, set, take, drop, drop_of_length-le, length-drop, length-set}
-use lib.Seq.{sets, drop-cons, set_out, take_all, get_or-set_same, get_or-set_other, get_or-take, get_or-drop, ext_get_or, length-take-le}
-use borrow.Author.Tests.{leb-true, leb-false}
+use lib.Seq.{sets, set_out, take_all, get_or-set_same, get_or-set_other, get_or-take, get_or-drop, ext_get_or, length-take-le}
 
--- one byte more: what is left to store from place i on
-pub sets_one : (l : List ℕ) (i : ℕ) (vs : List ℕ) → i < length vs
-    → sets l i (drop i vs) ≡ sets (set l i (get_or vs i 0)) (i + 1) (drop (i + 1) vs)
-sets_one l i vs h = rw (drop-cons vs i 0, add-one i)
-
--- nothing is left past the end
-sets_none : (l : List ℕ) (i : ℕ) (vs : List ℕ) → length vs ≤ i → sets l i (drop i vs) ≡ l
-sets_none l i vs h = rw (drop_of_length-le vs h)
-
-sets_nil : (i : ℕ) (vs : List ℕ) → sets [] i vs ≡ []
+sets_nil : {A : Type 0} (i : ℕ) (vs : List A) → sets [] i vs ≡ []
 sets_nil i [] = refl
 sets_nil i (v ∷ vs) = sets_nil (suc i) vs
 
-pub sets_cons : (x : ℕ) (l : List ℕ) (i : ℕ) (vs : List ℕ) → sets (x ∷ l) (suc i) vs ≡ x ∷ sets l i vs
+pub sets_cons : {A : Type 0} (x : A) (l : List A) (i : ℕ) (vs : List A) → sets (x ∷ l) (suc i) vs ≡ x ∷ sets l i vs
 sets_cons x l i [] = refl
 sets_cons x l i (v ∷ vs) = sets_cons x (set l i v) (suc i) vs
 
--- bytes stored into the part from place i on
-pub sets_part : (i : ℕ) (l vs : List ℕ) → take i l ++ sets (drop i l) 0 vs ≡ sets l i vs
+-- elements stored into the part from place i on
+pub sets_part : {A : Type 0} (i : ℕ) (l vs : List A) → take i l ++ sets (drop i l) 0 vs ≡ sets l i vs
 sets_part zero l vs = refl
 sets_part (suc i) [] vs = sets_nil 0 vs ∙ sym (sets_nil (suc i) vs)
-sets_part (suc i) (x ∷ l) vs = ap (λ (r : List ℕ). x ∷ r) (sets_part i l vs) ∙ sym (sets_cons x l i vs)
+sets_part {A} (suc i) (x ∷ l) vs = ap (λ (r : List A). x ∷ r) (sets_part i l vs) ∙ sym (sets_cons x l i vs)
 
 -- the same where the part has come back
-pub sets_back : (i : ℕ) (l vs : List ℕ)
+pub sets_back : {A : Type 0} (i : ℕ) (l vs : List A)
     → take i l ++ (sets (take (length l - i) (drop i l)) 0 vs ++ drop (length l - i) (drop i l)) ≡ sets l i vs
 sets_back i l vs =
     rw (
@@ -47,17 +35,15 @@ sets_back i l vs =
     (sets_part i l vs)
 
 -- past the end nothing is stored
-pub sets_out : (l : List ℕ) (i : ℕ) (vs : List ℕ) → length l ≤ i → sets l i vs ≡ l
+pub sets_out : {A : Type 0} (l : List A) (i : ℕ) (vs : List A) → length l ≤ i → sets l i vs ≡ l
 sets_out l i [] h = refl
 sets_out l i (v ∷ vs) h = rw (set_out l i v h) (sets_out l (suc i) vs (omega arith))
 
--- nothing is left past the end of either
-pub sets_done : (l : List ℕ) (i : ℕ) (vs : List ℕ) → min (length vs) (length l) ≤ i → sets l i (drop i vs) ≡ l
-sets_done l i vs h = by_test (leb (length vs) i) refl
-  where
-    by_test : (t : Bool) → leb (length vs) i ≡ t → sets l i (drop i vs) ≡ l
-    by_test true e = sets_none l i vs (leb-true (length vs) i e)
-    by_test false e = sets_out l i (drop i vs) (omega (arith, leb-false (length vs) i e))
+-- stored from the start on, as many as there is room for
+pub sets_first : {A : Type 0} (l vs : List A) → take (min (length vs) (length l)) vs ++ drop (min (length vs) (length l)) l ≡ sets l 0 vs
+sets_first [] vs = rw (min-zero (length vs)) (sym (sets_nil 0 vs))
+sets_first (x ∷ l) [] = simp unary_clauses
+sets_first {A} (x ∷ l) (v ∷ vs) = simp unary_clauses (ap (λ (r : List A). v ∷ r) (sets_first l vs) ∙ sym (sets_cons v l 0 vs))
 
 -- a list that is stored over whole is the other's beginning
 pub sets_over : (l vs : List ℕ) → length l ≤ length vs → sets l 0 vs ≡ take (length l) vs

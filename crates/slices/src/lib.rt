@@ -1,44 +1,41 @@
-// Bytes in their places: one byte put, a part copied or lent.
+// Elements in their places: one put, a part copied or lent, of bytes or of anything else that is copied.
 //
-// Promises: each function is an equation over lists, for any bytes, lengths and places. What would stand past the end is
-// left out, so no function asks for room. Leaves to others: what the bytes mean.
+// Promises: each function is an equation over lists, for any elements, lengths and places. What would stand past the end is
+// left out, so no function asks for room. Leaves to others: what the elements mean.
 #![tactic(auto)]
 
 ghost use Rattle.std.specs.Prelude.{◌≡◌, set, take, drop};
 ghost use Rattle.std.proofs.lemmas.List.Edits.{sets};
 
-// One byte; past the end nothing is written.
-pub fn put(frame: &mut [u8], at: usize, b: u8)
-    ensures { frame.new ≡ set frame.old at b }
+// One element; past the end nothing is written.
+pub fn put<T: Copy>(items: &mut [T], at: usize, x: T)
+    ensures { items.new ≡ set items.old at x }
 {
-    if at < frame.len() {
-        frame[at] = b;
+    if at < items.len() {
+        items[at] = x;
     }
 }
 
-// The bytes of `src` over the first of `dst`, as many as there is room for.
-pub fn copy(src: &[u8], dst: &mut [u8])
+// The elements of `src` over the first of `dst`, as many as there is room for.
+#[tactic(auto, using(crate::proofs::Bytes::sets_first))]
+pub fn copy<T: Copy>(src: &[T], dst: &mut [T])
     ensures { dst.new ≡ sets dst.old 0 src.now }
 {
-    let n = choice::lesser(src.len(), dst.len());
-    let mut i: usize = 0;
-    while i < n {
-        dst[i] = src[i];
-        i = i + 1;
-    }
+    let n = src.len().min(dst.len());
+    dst[..n].copy_from_slice(&src[..n]);
 }
 
-// A part of the frame, lent on from byte `at`, takes the bytes; no other byte changes.
-pub fn put_part(frame: &mut [u8], at: usize, bytes: &[u8])
-    ensures { frame.new ≡ sets frame.old at bytes.now }
+// A part, lent on from place `at`, takes the elements of `src`; no other changes.
+pub fn put_part<T: Copy>(items: &mut [T], at: usize, src: &[T])
+    ensures { items.new ≡ sets items.old at src.now }
 {
-    if at <= frame.len() {
-        copy(bytes, &mut frame[at..]);
+    if at <= items.len() {
+        copy(src, &mut items[at..]);
     }
 }
 
-// The bytes of `src` from `at` on over `dst`.
-pub fn take_part(src: &[u8], at: usize, dst: &mut [u8])
+// The elements of `src` from `at` on over `dst`.
+pub fn take_part<T: Copy>(src: &[T], at: usize, dst: &mut [T])
     ensures { dst.new ≡ sets dst.old 0 (drop at src.now) }
 {
     if at <= src.len() {
@@ -46,15 +43,15 @@ pub fn take_part(src: &[u8], at: usize, dst: &mut [u8])
     }
 }
 
-// The part of `n` bytes from `at` on, or as many of them as there are.
-pub fn part<'a>(bytes: &'a [u8], at: usize, n: usize) -> &'a [u8]
-    ensures { result.now ≡ take n (drop at bytes.now) }
+// The part of `n` elements from `at` on, or as many of them as there are.
+pub fn part<'a, T>(items: &'a [T], at: usize, n: usize) -> &'a [T]
+    ensures { result.now ≡ take n (drop at items.now) }
 {
-    if at <= bytes.len() {
-        if n <= bytes.len() - at {
-            return &bytes[at..at + n];
+    if at <= items.len() {
+        if n <= items.len() - at {
+            return &items[at..at + n];
         }
-        return &bytes[at..];
+        return &items[at..];
     }
-    &bytes[..0]
+    &items[..0]
 }

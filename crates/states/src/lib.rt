@@ -7,13 +7,13 @@ ghost use Rattle.std.specs.Prelude.{◌≡◌};
 ghost use Rattle.states.specs.State.{state_number, in_network, is_bus_sleep, is_normal, is_prepare, is_repeat, settled, transmits};
 
 // The states, numbered in this order from 0.
-#[derive(Clone, Copy)]
+#[derive(Clone, Copy, PartialEq, Eq)]
 pub enum State {
-    BusSleep,
-    PrepareBusSleep,
-    RepeatMessage,
-    NormalOperation,
-    ReadySleep,
+    BusSleep = 0,
+    PrepareBusSleep = 1,
+    RepeatMessage = 2,
+    NormalOperation = 3,
+    ReadySleep = 4,
 }
 
 // What decides the state: nothing else of the channel is looked at for it.
@@ -29,7 +29,7 @@ pub struct Mode {
 }
 
 // What is sent and watched: message and remote sleep timers, and the bits of the control bit vector.
-#[derive(Clone, Copy)]
+#[derive(Clone, Copy, Default)]
 pub struct Traffic {
     pub message: u16, // message cycle timer
     pub fast: u16, // immediate transmissions left, document 01's fast count
@@ -42,7 +42,6 @@ pub struct Traffic {
 // What the channel tells its host, by the abbreviation that document 01 prints.
 #[derive(Clone, Copy)]
 pub enum Note {
-    Nothing,
     NetworkMode, // NM
     NetworkStart, // ST
     PrepareBusSleep, // PB
@@ -52,102 +51,58 @@ pub enum Note {
     RemoteSleepIndication, // RI
 }
 
-// The number of a state.
+// The number of a state: the status and the table of decisions promise the number.
 pub fn state_number(s: State) -> u8
     ensures { result ≡ state_number s }
 {
-    match s {
-        State::BusSleep => 0,
-        State::PrepareBusSleep => 1,
-        State::RepeatMessage => 2,
-        State::NormalOperation => 3,
-        State::ReadySleep => 4,
-    }
+    s as u8
 }
 
 // Is it Network Mode?
 pub fn in_network(s: State) -> bool
     ensures { result ≡ in_network s }
 {
-    match s {
-        State::BusSleep => false,
-        State::PrepareBusSleep => false,
-        State::RepeatMessage => true,
-        State::NormalOperation => true,
-        State::ReadySleep => true,
-    }
+    matches!(
+        s,
+        State::RepeatMessage | State::NormalOperation | State::ReadySleep
+    )
 }
 
 // Does an active channel send in it?
 pub fn transmits(s: State) -> bool
     ensures { result ≡ transmits s }
 {
-    match s {
-        State::BusSleep => false,
-        State::PrepareBusSleep => false,
-        State::RepeatMessage => true,
-        State::NormalOperation => true,
-        State::ReadySleep => false,
-    }
+    matches!(s, State::RepeatMessage | State::NormalOperation)
 }
 
 // Is it Normal Operation or Ready Sleep?
 pub fn settled(s: State) -> bool
     ensures { result ≡ settled s }
 {
-    match s {
-        State::BusSleep => false,
-        State::PrepareBusSleep => false,
-        State::RepeatMessage => false,
-        State::NormalOperation => true,
-        State::ReadySleep => true,
-    }
+    matches!(s, State::NormalOperation | State::ReadySleep)
 }
 
+// The next four say no more than `==`, with which crates here compare states; docs/PROMISES.md names them.
 pub fn is_bus_sleep(s: State) -> bool
     ensures { result ≡ is_bus_sleep s }
 {
-    match s {
-        State::BusSleep => true,
-        State::PrepareBusSleep => false,
-        State::RepeatMessage => false,
-        State::NormalOperation => false,
-        State::ReadySleep => false,
-    }
+    s == State::BusSleep
 }
 
 pub fn is_prepare(s: State) -> bool
     ensures { result ≡ is_prepare s }
 {
-    match s {
-        State::BusSleep => false,
-        State::PrepareBusSleep => true,
-        State::RepeatMessage => false,
-        State::NormalOperation => false,
-        State::ReadySleep => false,
-    }
+    s == State::PrepareBusSleep
 }
 
 pub fn is_repeat(s: State) -> bool
     ensures { result ≡ is_repeat s }
 {
-    match s {
-        State::BusSleep => false,
-        State::PrepareBusSleep => false,
-        State::RepeatMessage => true,
-        State::NormalOperation => false,
-        State::ReadySleep => false,
-    }
+    s == State::RepeatMessage
 }
 
 pub fn is_normal(s: State) -> bool
     ensures { result ≡ is_normal s }
 {
-    match s {
-        State::BusSleep => false,
-        State::PrepareBusSleep => false,
-        State::RepeatMessage => false,
-        State::NormalOperation => true,
-        State::ReadySleep => false,
-    }
+    s == State::NormalOperation
 }

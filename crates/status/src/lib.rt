@@ -5,11 +5,10 @@
 #![tactic(auto)]
 
 ghost use Rattle.std.specs.Prelude.{◌≡◌};
-ghost use Rattle.bits.specs.Bits.{count_ones, lowest_in};
+ghost use Rattle.bits.specs.Bits.{lowest_in};
 ghost use Rattle.channel.specs.Channel.{lowest_pnc, status_of, unshown, vector_of};
 
 use answers::Answer;
-use bits::Lowest;
 use channel::state::{Channel, Status};
 use config::{Config, PN_MOST, PNC_MOST};
 use pnc::VectorBit;
@@ -17,31 +16,20 @@ use pnc::VectorBit;
 fn vector_of(t: &[u16; PNC_MOST]) -> [u8; PN_MOST]
     ensures { result ≡ vector_of t.now }
 {
-    [
-        vectors::vector_byte(t, 0),
-        vectors::vector_byte(t, 8),
-        vectors::vector_byte(t, 16),
-        vectors::vector_byte(t, 24),
-        vectors::vector_byte(t, 32),
-        vectors::vector_byte(t, 40),
-        vectors::vector_byte(t, 48),
-    ]
-}
-
-fn count_of(v: &[u8; PN_MOST]) -> u32
-    ensures { result ≡ count_ones v.now }
-{
-    bits::count_ones(v)
+    let mut vector = [0; PN_MOST];
+    for (i, byte) in vector.iter_mut().enumerate() {
+        *byte = vectors::vector_byte(t, 8 * i);
+    }
+    vector
 }
 
 fn lowest_of(c: Config, v: &[u8; PN_MOST]) -> u32
     ensures { result ≡ lowest_pnc c (lowest_in v.now) }
 {
     let range = pnc::range_of(c);
-    let k = bits::lowest_one(v);
-    match k {
-        Lowest::At(b) => pnc::number_or_zero(VectorBit(b), range),
-        Lowest::Nowhere => 0,
+    match bits::lowest_one(v) {
+        Some(b) => pnc::number_or_zero(VectorBit(b), range),
+        None => 0,
     }
 }
 
@@ -63,23 +51,22 @@ pub fn status(ch: Channel) -> Status
     ensures { result ≡ status_of ch }
 {
     let c = ch.own.config;
-    let m = ch.own.mode;
-    let state = m.state;
-    let ok = soundness::sound(c, ch.own.ticks, m, ch.own.traffic, &ch.own.era, &ch.eira);
+    let state = ch.own.mode.state;
+    let ok = ch.is_sound();
     let elsewhere = decision::is_not_here(decision::rule_of(state, decision::STATUS));
     let a = refusals::judge(ok, false, false, elsewhere, false);
-    if refusals::is_done(a) {
+    if a.is_ok() {
         let era = vector_of(&ch.own.era);
         let eira = vector_of(&ch.eira);
-        let count = count_of(&eira);
+        let count = bits::count_ones(&eira);
         let lowest = lowest_of(c, &eira);
         return Status {
-            answer: Answer::Done,
+            answer: Ok(()),
             state: states::state_number(state),
-            era: era,
-            eira: eira,
-            count: count,
-            lowest: lowest,
+            era,
+            eira,
+            count,
+            lowest,
         };
     }
     unshown(a)

@@ -17,7 +17,7 @@ ghost use Rattle.std.specs.Prelude.{◌≤◌};
 
 use answers::Answer;
 use channel::state::{Channel, Notes, Own, Reply};
-use config::{Config, PDU_MOST, PN_MOST, PNC_MOST, Ticks};
+use config::{Config, PDU_MOST, PN_MOST, PNC_MOST, Ticks, Times};
 use states::{Mode, Note, State, Traffic};
 
 // How many words a channel takes.
@@ -84,25 +84,18 @@ fn state_of(number: u64) -> State {
 fn bytes_of(w: &[u64], k: usize) -> [u8; PDU_MOST]
     requires { k ≤ 1000 }
 {
-    [
-        byte(w, k),
-        byte(w, k + 1),
-        byte(w, k + 2),
-        byte(w, k + 3),
-        byte(w, k + 4),
-        byte(w, k + 5),
-        byte(w, k + 6),
-        byte(w, k + 7),
-    ]
+    let mut bytes = [0; PDU_MOST];
+    for (i, x) in bytes.iter_mut().enumerate() {
+        *x = byte(w, k + i);
+    }
+    bytes
 }
 
 fn load_timers(w: &[u64], k: usize, timers: &mut [u16; PNC_MOST])
     requires { k ≤ 1000 }
 {
-    let mut i: usize = 0;
-    while i < PNC_MOST {
-        timers[i] = word(w, k + i);
-        i = i + 1;
+    for (i, timer) in timers.iter_mut().enumerate() {
+        *timer = word(w, k + i);
     }
 }
 
@@ -111,17 +104,20 @@ fn config_in(w: &[u64]) -> Config {
     super::config_of(w, &mask)
 }
 
+// The words of the times in ticks.
+const TICKS_AT: Times<usize> = Times {
+    timeout: 28,
+    wait: 29,
+    repeat: 30,
+    cycle: 31,
+    offset: 32,
+    fast: 33,
+    remote: 34,
+    reset: 35,
+};
+
 fn ticks_in(w: &[u64]) -> Ticks {
-    Ticks {
-        timeout: word(w, 28),
-        wait: word(w, 29),
-        repeat: word(w, 30),
-        cycle: word(w, 31),
-        offset: word(w, 32),
-        fast: word(w, 33),
-        remote: word(w, 34),
-        reset: word(w, 35),
-    }
+    TICKS_AT.map(|k| word(w, k))
 }
 
 fn mode_in(w: &[u64]) -> Mode {
@@ -169,89 +165,65 @@ pub fn channel_in(w: &[u64]) -> Channel {
 
 // ---- the words of a channel
 
-fn put(w: &mut [u64], k: usize, value: u64) {
-    if k < w.len() {
-        w[k] = value;
-    }
-}
-
 fn put_word(w: &mut [u64], k: usize, value: u16) {
-    put(w, k, value as u64);
+    slices::put(w, k, value as u64);
 }
 
 fn put_byte(w: &mut [u64], k: usize, value: u8) {
-    put(w, k, value as u64);
+    slices::put(w, k, value as u64);
 }
 
 fn put_flag(w: &mut [u64], k: usize, set: bool) {
-    if set {
-        put(w, k, 1);
-    } else {
-        put(w, k, 0);
-    }
+    slices::put(w, k, u64::from(set));
 }
 
 fn put_bytes(w: &mut [u64], k: usize, bytes: &[u8; PDU_MOST])
     requires { k ≤ 1000 }
 {
-    let mut i: usize = 0;
-    while i < 8 {
-        put_byte(w, k + i, bytes[i]);
-        i = i + 1;
+    for (i, x) in bytes.iter().enumerate() {
+        put_byte(w, k + i, *x);
     }
 }
 
 fn put_timers(w: &mut [u64], k: usize, timers: &[u16; PNC_MOST])
     requires { k ≤ 1000 }
 {
-    let mut i: usize = 0;
-    while i < PNC_MOST {
-        put_word(w, k + i, timers[i]);
-        i = i + 1;
+    for (i, timer) in timers.iter().enumerate() {
+        put_word(w, k + i, *timer);
     }
 }
 
 fn put_times(w: &mut [u64], c: Config) {
-    put(w, 0, c.period);
-    put(w, 1, c.times.timeout);
-    put(w, 2, c.times.wait);
-    put(w, 3, c.times.repeat);
-    put(w, 4, c.times.cycle);
-    put(w, 5, c.times.offset);
-    put(w, 7, c.times.fast);
-    put(w, 8, c.times.remote);
-    put(w, 17, c.times.reset);
+    slices::put(w, 0, c.period);
+    for (k, ms) in super::TIMES_AT.each().iter().zip(c.times.each().iter()) {
+        slices::put(w, *k, *ms);
+    }
 }
 
 fn put_layout(w: &mut [u64], c: Config) {
-    put(w, 6, c.immediate);
+    slices::put(w, 6, c.immediate);
     put_flag(w, 9, c.passive);
-    put(w, 10, c.layout.length);
-    put(w, 11, c.layout.sni);
-    put(w, 12, c.layout.cbv);
-    put(w, 13, c.node);
+    slices::put(w, 10, c.layout.length);
+    slices::put(w, 11, c.layout.sni);
+    slices::put(w, 12, c.layout.cbv);
+    slices::put(w, 13, c.node);
 }
 
 fn put_partial(w: &mut [u64], c: Config) {
     let pn = c.pn;
     let mask = pn.mask;
     put_flag(w, 14, pn.on);
-    put(w, 15, pn.start);
-    put(w, 16, pn.length);
+    slices::put(w, 15, pn.start);
+    slices::put(w, 16, pn.length);
     put_flag(w, 18, pn.awake);
-    put(w, 19, pn.masked);
+    slices::put(w, 19, pn.masked);
     put_bytes(w, 20, &mask);
 }
 
 fn put_ticks(w: &mut [u64], t: Ticks) {
-    put_word(w, 28, t.timeout);
-    put_word(w, 29, t.wait);
-    put_word(w, 30, t.repeat);
-    put_word(w, 31, t.cycle);
-    put_word(w, 32, t.offset);
-    put_word(w, 33, t.fast);
-    put_word(w, 34, t.remote);
-    put_word(w, 35, t.reset);
+    for (k, ticks) in TICKS_AT.each().iter().zip(t.each().iter()) {
+        put_word(w, *k, *ticks);
+    }
 }
 
 fn put_mode(w: &mut [u64], m: Mode) {
@@ -298,21 +270,16 @@ pub fn put_channel(w: &mut [u64], ch: Channel) {
 
 // ---- the calls
 
-fn note_number(note: Note) -> u32 {
+// The number of a note in the order of its enum, from 1; 0 for none.
+fn note_number(note: Option<Note>) -> u32 {
     match note {
-        Note::Nothing => 0,
-        Note::NetworkMode => 1,
-        Note::NetworkStart => 2,
-        Note::PrepareBusSleep => 3,
-        Note::BusSleep => 4,
-        Note::Timeout => 5,
-        Note::RemoteSleepCancelled => 6,
-        Note::RemoteSleepIndication => 7,
+        None => 0,
+        Some(n) => 1 + n as u32,
     }
 }
 
 fn digit(set: bool) -> u32 {
-    if set { 1 } else { 0 }
+    u32::from(set)
 }
 
 fn outcome(a: Answer, notes: Notes, sent: bool) -> Called {
@@ -400,10 +367,8 @@ pub fn test_call(
 }
 
 fn put_vector(vector: &[u8; PN_MOST], out: &mut [u8]) {
-    let mut i: usize = 0;
-    while i < out.len() {
-        out[i] = bits::byte_at(vector, i);
-        i = i + 1;
+    for (i, x) in out.iter_mut().enumerate() {
+        *x = vector.get(i).copied().unwrap_or(0);
     }
 }
 

@@ -6,7 +6,8 @@
 #![tactic(auto)]
 
 use config::{Config, Layout, PDU_MOST, Partial, Times};
-use pnc::{BitOf, NumberOf, PnRange, PncNumber, VectorBit};
+use pdu::Header;
+use pnc::{PnRange, PncNumber, VectorBit};
 
 pub mod exchange;
 
@@ -35,35 +36,30 @@ pub struct Place {
 
 // Number k, 0 past the end.
 fn at(numbers: &[u64], k: usize) -> u64 {
-    if k < numbers.len() { numbers[k] } else { 0 }
+    numbers.get(k).copied().unwrap_or(0)
 }
 
 // The first eight bytes of a mask.
 fn mask_of(bytes: &[u8]) -> [u8; PDU_MOST] {
-    [
-        bits::byte_at(bytes, 0),
-        bits::byte_at(bytes, 1),
-        bits::byte_at(bytes, 2),
-        bits::byte_at(bytes, 3),
-        bits::byte_at(bytes, 4),
-        bits::byte_at(bytes, 5),
-        bits::byte_at(bytes, 6),
-        bits::byte_at(bytes, 7),
-    ]
+    let mut mask = [0; PDU_MOST];
+    slices::copy(bytes, &mut mask);
+    mask
 }
+
+// The numbers of the times in milliseconds.
+const TIMES_AT: Times<usize> = Times {
+    timeout: 1,
+    wait: 2,
+    repeat: 3,
+    cycle: 4,
+    offset: 5,
+    fast: 7,
+    remote: 8,
+    reset: 17,
+};
 
 // The configuration of twenty numbers and a mask.
 fn config_of(n: &[u64], mask: &[u8]) -> Config {
-    let times = Times {
-        timeout: at(n, 1),
-        wait: at(n, 2),
-        repeat: at(n, 3),
-        cycle: at(n, 4),
-        offset: at(n, 5),
-        fast: at(n, 7),
-        remote: at(n, 8),
-        reset: at(n, 17),
-    };
     let layout = Layout {
         length: at(n, 10),
         sni: at(n, 11),
@@ -80,7 +76,7 @@ fn config_of(n: &[u64], mask: &[u8]) -> Config {
     };
     Config {
         period: at(n, 0),
-        times: times,
+        times: TIMES_AT.map(|k| at(n, k)),
         immediate: at(n, 6),
         node: at(n, 13),
         passive: at(n, 9) != 0,
@@ -90,7 +86,7 @@ fn config_of(n: &[u64], mask: &[u8]) -> Config {
 }
 
 pub fn test_first_broken_rule(numbers: &[u64], mask: &[u8]) -> u32 {
-    rules::first_broken_rule(config_of(numbers, mask)) as u32
+    answers::rule(answers::ruled(rules::first_broken_rule(config_of(numbers, mask)))) as u32
 }
 
 pub fn test_compose(
@@ -112,12 +108,13 @@ pub fn test_compose(
 
 pub fn test_read(numbers: &[u64], mask: &[u8], pdu: &[u8], pn: &mut [u8], user: &mut [u8]) -> Read {
     let r = pdu::read(config_of(numbers, mask), pdu, pn, user);
-    let a = r.answer;
+    let a = answers::answer_to(r);
+    let header = r.unwrap_or(Header { sni: 0, cbv: 0 });
     Read {
         answer: answers::number(a) as u32,
         rule: answers::rule(a) as u32,
-        sni: r.sni as u32,
-        cbv: r.cbv as u32,
+        sni: header.sni as u32,
+        cbv: header.cbv as u32,
     }
 }
 
@@ -131,11 +128,11 @@ fn range_of(start: u32, length: u32) -> PnRange {
 pub fn test_pnc_number(start: u32, length: u32, bit: u32) -> Place {
     let n = VectorBit(bit).number(range_of(start, length));
     match n {
-        NumberOf::Number(p) => Place {
+        Some(p) => Place {
             inside: 1,
             value: p.0,
         },
-        NumberOf::NoBit => Place {
+        None => Place {
             inside: 0,
             value: 0,
         },
@@ -145,11 +142,11 @@ pub fn test_pnc_number(start: u32, length: u32, bit: u32) -> Place {
 pub fn test_pnc_bit(start: u32, length: u32, number: u32) -> Place {
     let b = PncNumber(number).bit(range_of(start, length));
     match b {
-        BitOf::Bit(v) => Place {
+        Some(v) => Place {
             inside: 1,
             value: v.0,
         },
-        BitOf::NoPnc => Place {
+        None => Place {
             inside: 0,
             value: 0,
         },

@@ -1,32 +1,45 @@
 -- Laws of the lines of a text, for every place in it. Assumes nothing.
-use mathlib.Core.Path.{◌≡◌, refl, ap}
+use mathlib.Core.Path.{◌≡◌, refl, sym, ap, ◌∙◌}
 use mathlib.Core.Bool.{Bool, true, false, cond}
 use mathlib.Core.List.{List, [], ◌∷◌, ◌++◌}
 use Prim.Native.Nat.{ℕ, zero, suc, ◌+◌, ◌-◌, ◌≤◌, ◌<◌}
-use native.Mathlib.Nat.{add-zero}
-use native.Mathlib.Numerals.{add-one}
 use native.Mathlib.Omega.{arith}
 use lib.Dec.{eqb, ltb}
-use lib.ListN.{length, take, drop, get_or, drop_of_length-le, length-drop}
-use lib.Seq.{drop-cons, drop-drop}
-use borrow.Author.Tests.{eq-eqb, ne_eqb, ltb-true, ltb-false}
+use lib.ListN.{length, take, drop, drop_of_length-le, length-drop}
+use lib.Seq.{drop-drop}
+use Rattle.std.proofs.lemmas.List.{take_all}
+use borrow.Author.Tests.{ltb-true, ltb-false}
 use Rattle.text.specs.Lines.{before, lines_of, line_feed, span_at, until}
-use Rattle.text.specs.declared.Span.TheVariants.{Line, End}
+use Rattle.std.specs.Prelude.{Option, Some, None, nat_lt, unwrap_or}
+use Rattle.std.specs.List.{position, position_or_len}
+use Rattle.std.proofs.lemmas.List.Sums.{prefix_len-le-length}
+use Rattle.std.proofs.lemmas.List.Recursion.{is_position_or_len}
 
 -- ---- the first b from a place on
 
-module _ (b : ℕ) (s : List ℕ) (i : ℕ) where
-  pub until_end : length s ≤ i → i + until b (drop i s) ≡ i
-  unfolding until
-  until_end h = rw (drop_of_length-le s h, add-zero)
+-- the first b stands where `position` finds it, and at the end where that finds none
+until_is : (b : ℕ) (xs : List ℕ) → until b xs ≡ position_or_len (λ x. eqb x b) xs
+unfolding until
+until_is b xs = is_position_or_len (until b) (λ x. eqb x b) refl (λ x r. search arith) xs
 
-  pub until_hit : i < length s → get_or s i 0 ≡ b → i + until b (drop i s) ≡ i
-  unfolding until
-  until_hit h e = rw (drop-cons s i 0, eq-eqb _ _ e, add-zero)
+pub until_position : (b : ℕ) (xs : List ℕ) → unwrap_or (position (λ x. eqb x b) xs) (length xs) ≡ until b xs
+until_position b xs = rw until_is (by_end (position_or_len (λ x. eqb x b) xs) (length xs) (prefix_len-le-length _ xs) (nat_lt (position_or_len (λ x. eqb x b) xs) (length xs)) refl)
+  where
+    by_end : (n len : ℕ) → n ≤ len → (t : Bool) → nat_lt n len ≡ t → unwrap_or (cond t (Some n) None) len ≡ n
+    by_end n len h true e = refl
+    by_end n len h false e = let l = ltb-false n len e in omega arith
 
-  pub until_miss : i < length s → (get_or s i 0 ≡ b → ⊥) → i + until b (drop i s) ≡ i + 1 + until b (drop (i + 1) s)
-  unfolding until
-  until_miss h e = rw (drop-cons s i 0, ne_eqb _ _ e, add-one) (omega arith)
+-- the first b in the rest of a text, by the place that was found there or the rest's length
+pub until_rest : (b : ℕ) (s : List ℕ) (at : ℕ) {o : Option ℕ} {n : ℕ} → let rest = take (length s - at) (drop at s) in
+    o ≡ position (λ x. eqb x b) rest → n ≡ unwrap_or o (length rest) → at + n ≡ at + until b (drop at s)
+until_rest b s at found here =
+    let all : take (length s - at) (drop at s) ≡ drop at s = take_all _ (drop at s) (rw length-drop (omega arith)) in
+    ap (λ k. at + k) (rw found at here ∙ until_position b _ ∙ ap (until b) all)
+
+-- past the end there is none
+pub until_past : (b : ℕ) (s : List ℕ) (at : ℕ) → length s ≤ at → at ≡ at + until b (drop at s)
+unfolding until
+until_past b s at h = rw (drop_of_length-le s h) (omega arith)
 
 pub until_le : (b : ℕ) (s : List ℕ) → until b s ≤ length s
 unfolding until
@@ -97,22 +110,23 @@ lines_grow (x ∷ xs) t = by_byte (eqb x line_feed) (lines_of xs) (lines_of (xs 
 
 -- ---- what a span says
 
-span_by : (s : List ℕ) (at : ℕ) (t : Bool) {a e : ℕ} → ltb at (length s) ≡ t → cond t (Line at (at + until line_feed (drop at s))) End ≡ Line a e
+span_by : (s : List ℕ) (at : ℕ) (t : Bool) {a e : ℕ} → ltb at (length s) ≡ t → cond {A = Option (ℕ × ℕ)} t (Some (at, at + until line_feed (drop at s))) None ≡ Some (a, e)
     → (at < length s) × (a ≡ at) × (e ≡ at + until line_feed (drop at s)) × (e ≤ length s)
 span_by s at true {a} {e} h i =
     let l = ltb-true at (length s) h in
-    let p : e ≡ at + until line_feed (drop at s) = cc in
-    (l, cc, p, (found_le line_feed s at (omega arith) p).1)
+    let both : ◌≡◌ {A = ℕ × ℕ} (at, at + until line_feed (drop at s)) (a, e) = cc in
+    let p : e ≡ at + until line_feed (drop at s) = sym (ap (λ (x : ℕ × ℕ). x.1) both) in
+    (l, sym (ap (λ (x : ℕ × ℕ). x.0) both), p, (found_le line_feed s at (omega arith) p).1)
 span_by s at false h i = let z : ◌≡◌ {A = ℕ} 0 1 = cc in absurd (omega arith)
 
-pub span_line : (s : List ℕ) (at : ℕ) {a e : ℕ} → span_at s at ≡ Line a e → (at < length s) × (a ≡ at) × (e ≡ at + until line_feed (drop at s)) × (e ≤ length s)
+pub span_line : (s : List ℕ) (at : ℕ) {a e : ℕ} → span_at s at ≡ Some (a, e) → (at < length s) × (a ≡ at) × (e ≡ at + until line_feed (drop at s)) × (e ≤ length s)
 unfolding span_at
 span_line s at h = span_by s at (ltb at (length s)) refl h
 
-end_by : (s : List ℕ) (at : ℕ) (t : Bool) → ltb at (length s) ≡ t → cond t (Line at (at + until line_feed (drop at s))) End ≡ End → length s ≤ at
+end_by : (s : List ℕ) (at : ℕ) (t : Bool) → ltb at (length s) ≡ t → cond {A = Option (ℕ × ℕ)} t (Some (at, at + until line_feed (drop at s))) None ≡ None → length s ≤ at
 end_by s at true h i = let z : ◌≡◌ {A = ℕ} 0 1 = cc in absurd (omega arith)
 end_by s at false h i = ltb-false at (length s) h
 
-pub span_end : (s : List ℕ) (at : ℕ) → span_at s at ≡ End → length s ≤ at
+pub span_end : (s : List ℕ) (at : ℕ) → span_at s at ≡ None → length s ≤ at
 unfolding span_at
 span_end s at h = end_by s at (ltb at (length s)) refl h

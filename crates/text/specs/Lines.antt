@@ -1,9 +1,7 @@
 -- The lines of a text. Assumes nothing.
-use Rattle.std.specs.Prelude.{ℕ, zero, suc, ◌+◌, cond, List, [], ◌∷◌, eqb, ltb, length, drop}
+use Rattle.std.specs.Prelude.{ℕ, zero, suc, ◌+◌, cond, List, [], ◌∷◌, eqb, ltb, length, drop, Option, Some, None}
 use Rattle.std.specs.Borrow.{Bor}
 use Rattle.text.specs.declared.Reader.{Reader}
-use Rattle.text.specs.declared.Span.{Span}
-use Rattle.text.specs.declared.Span.TheVariants.{Line, End}
 
 -- the byte that ends a line
 abbrev pub line_feed : ℕ
@@ -25,8 +23,8 @@ until b [] = zero
 until b (x ∷ xs) = cond (eqb x b) zero (suc (until b xs))
 
 -- the line that begins at a place of a text, by the place of its first byte and the place past its last
-unfoldable pub span_at : List ℕ → ℕ → Span
-span_at s at = cond (ltb at (length s)) (Line at (at + until line_feed (drop at s))) End
+unfoldable pub span_at : List ℕ → ℕ → Option (ℕ × ℕ)
+span_at s at = cond (ltb at (length s)) (Some (at, at + until line_feed (drop at s))) None
 
 -- a reader of a lent text, at a place
 abbrev pub reader_at : Bor (List ℕ) → ℕ → Reader

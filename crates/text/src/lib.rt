@@ -4,7 +4,7 @@
 // others: what a line says (`fields`), and a text that is read in blocks (`blocks`).
 #![tactic(auto)]
 
-ghost use Rattle.std.specs.Prelude.{◌≡◌, ◌+◌, length, drop};
+ghost use Rattle.std.specs.Prelude.{◌≡◌, ◌+◌, ◌==◌, length, drop, position};
 ghost use Rattle.text.specs.Lines.{line_feed, lines_of, reader_at, span_at, until};
 
 // The byte that ends a line.
@@ -12,18 +12,22 @@ pub const LINE_FEED: u8 = 10;
 
 // ---- lines
 
+// The place of the first `b`.
+fn first(s: &[u8], b: u8) -> Option<usize>
+    ensures { result ≡ position (λ x. x == b) s.now }
+{
+    s.iter().position(|x| *x == b)
+}
+
 // The place of the first `b` at or after `at`: the length where there is none, and `at` itself past the end.
 pub fn find(s: &[u8], at: usize, b: u8) -> usize
     ensures { result ≡ at + until b (drop at s.now) }
 {
-    let mut i = at;
-    while i < s.len() {
-        if s[i] == b {
-            return i;
-        }
-        i += 1;
+    if s.len() <= at {
+        return at;
     }
-    i
+    let rest = &s[at..];
+    at + first(rest, b).unwrap_or(rest.len())
 }
 
 // The place past the last byte of the line that begins at `at`.
@@ -33,22 +37,15 @@ pub fn line_end(s: &[u8], at: usize) -> usize
     find(s, at, LINE_FEED)
 }
 
-// A line by the place of its first byte and the place past its last; the next line begins one behind that.
-#[derive(Clone, Copy)]
-pub enum Span {
-    Line(usize, usize),
-    End,
-}
-
-// The line that begins at a place.
-pub fn span_at(s: &[u8], at: usize) -> Span
+// The line that begins at a place, by the place of its first byte and the place past its last; the next line begins one behind
+// that.
+pub fn span_at(s: &[u8], at: usize) -> Option<(usize, usize)>
     ensures { result ≡ span_at s.now at }
 {
     if at < s.len() {
-        let end = line_end(s, at);
-        Span::Line(at, end)
+        Some((at, line_end(s, at)))
     } else {
-        Span::End
+        None
     }
 }
 
@@ -58,8 +55,9 @@ pub fn line_count(s: &[u8]) -> usize
 {
     let mut n: usize = 0;
     let mut at: usize = 0;
-    while at < s.len() {
-        at = line_end(s, at) + 1;
+    // A place is carried along: `split_inclusive` is a method of `str` alone.
+    while let Some((_, end)) = span_at(s, at) {
+        at = end + 1;
         n += 1;
     }
     n
@@ -74,22 +72,24 @@ pub struct Reader<'a> {
     pub at: usize,
 }
 
-pub fn new<'a>(text: &'a [u8], at: usize) -> Reader<'a>
-    ensures { result ≡ reader_at text.entry at }
-{
-    Reader { text, at }
-}
+impl<'a> Reader<'a> {
+    pub fn new(text: &'a [u8], at: usize) -> Reader<'a>
+        ensures { result ≡ reader_at text.entry at }
+    {
+        Reader { text, at }
+    }
 
-// The reader's next line.
-pub fn next<'a>(r: Reader<'a>) -> Span
-    ensures { result ≡ span_at r.entry.text.now r.entry.at }
-{
-    span_at(r.text, r.at)
+    // The reader's next line.
+    pub fn next(self) -> Option<(usize, usize)>
+        ensures { result ≡ span_at self.entry.text.now self.entry.at }
+    {
+        span_at(self.text, self.at)
+    }
 }
 
 // The line that begins at a place, by a reader. Its parameters are plain, so that its callers meet no reader.
-pub fn line_at(text: &[u8], at: usize) -> Span
+pub fn line_at(text: &[u8], at: usize) -> Option<(usize, usize)>
     ensures { result ≡ span_at text.now at }
 {
-    next(new(text, at))
+    Reader::new(text, at).next()
 }

@@ -6,9 +6,8 @@ use native.Mathlib.Nat.{div-mul-le_self, lt-div-mul-add}
 use native.Mathlib.Omega.{arith}
 use lib.Arith.{digits_div}
 use lib.Dec.{leb, ltb, eqb}
-use borrow.Author.Tests.{leb-true, leb-false, ltb-true, ltb-false, eqb-true, eqb-false, le-leb, lt-leb}
-use Rattle.ticks.specs.declared.Conversion.{Conversion}
-use Rattle.ticks.specs.Ticks.{conversion_of, period_least, period_most, ticks_of, time_most}
+use borrow.Author.Tests.{leb-true, leb-false, ltb-true, ltb-false, eqb-true, eqb-false}
+use Rattle.ticks.specs.Ticks.{ticks_of}
 
 -- the quotient is k where k ticks last as long as the time, by less than a tick
 between : (p k ms : ℕ) → 1 ≤ p → ms ≤ k * p → k * p - ms < p → (ms + (p - 1)) / p ≡ k
@@ -43,24 +42,3 @@ covers_is p k ms h = go (leb ms (k * p)) (ltb (k * p - ms) p) (eqb k ((ms + (p -
 pub some_tick : (p ms : ℕ) → 1 ≤ p → 1 ≤ ms → ticks_of p ms ≡ 0 → ⊥
 unfolding ticks_of
 some_tick p ms h z e = let q = rw e at (upper p ms h) in omega arith
-
--- the ways of a conversion
-abbrev gives : ℕ → ℕ → Conversion
-gives rule ticks = record { rule = rule; ticks = ticks }
-
-module _ (p ms : ℕ) where
-  pub within : period_least ≤ p → p ≤ period_most → ms ≤ time_most → gives 0 (ticks_of p ms) ≡ conversion_of p ms
-  unfolding conversion_of
-  within l m t = rw (le-leb _ _ l, le-leb _ _ m, le-leb _ _ t)
-
-  pub period_too_short : p < period_least → gives 1 0 ≡ conversion_of p ms
-  unfolding conversion_of
-  period_too_short l = rw (lt-leb _ _ l)
-
-  pub period_too_long : period_least ≤ p → period_most < p → gives 1 0 ≡ conversion_of p ms
-  unfolding conversion_of
-  period_too_long l m = rw (le-leb _ _ l, lt-leb _ _ m)
-
-  pub time_too_long : period_least ≤ p → p ≤ period_most → time_most < ms → gives 2 0 ≡ conversion_of p ms
-  unfolding conversion_of
-  time_too_long l m t = rw (le-leb _ _ l, le-leb _ _ m, lt-leb _ _ t)

@@ -1,6 +1,7 @@
 -- Time: milliseconds to ticks of the main function. Assumes nothing.
-use Rattle.std.specs.Prelude.{cond, ◌&&◌, ℕ, ◌+◌, ◌-◌, ◌/◌, leb}
-use Rattle.ticks.specs.declared.Conversion.{Conversion}
+use Rattle.std.specs.Prelude.{cond, ◌&&◌, ℕ, ◌+◌, ◌-◌, ◌/◌, leb, Result, Ok, Err}
+use Rattle.answers.specs.declared.BrokenRule.{BrokenRule}
+use Rattle.answers.specs.declared.BrokenRule.TheVariants.{Period, Bounds}
 
 -- the number of ticks that last at least ms milliseconds: rounded up, so that no timeout ends early
 unfoldable pub ticks_of : ℕ → ℕ → ℕ
@@ -16,9 +17,9 @@ period_most = 100
 abbrev pub time_most : ℕ
 time_most = 65535
 
--- the ticks, or the configuration rule that is broken: 1 by the period, 2 by the time
-unfoldable pub conversion_of : ℕ → ℕ → Conversion
+-- the ticks, or the configuration rule that is broken: by the period or by the time
+unfoldable pub conversion_of : ℕ → ℕ → Result ℕ BrokenRule
 conversion_of period ms =
     cond (leb period_least period && leb period period_most)
-    (cond (leb ms time_most) (record { rule = 0; ticks = ticks_of period ms }) (record { rule = 2; ticks = 0 }))
-    (record { rule = 1; ticks = 0 })
+    (cond (leb ms time_most) (Ok (ticks_of period ms)) (Err Bounds))
+    (Err Period)

@@ -7,8 +7,11 @@
 #![tactic(auto)]
 
 ghost use Rattle.std.specs.Prelude.{◌≡◌, eqb, leb, ltb, ◌-◌, ◌*◌, ◌≤◌, ◌&&◌};
+ghost use Rattle.std.specs.Result.{result_unwrap_or};
 ghost use Rattle.ticks.specs.LongDivision.{next_bit};
 ghost use Rattle.ticks.specs.Ticks.{conversion_of, period_least, period_most, ticks_of, time_most};
+
+use answers::BrokenRule;
 
 // The period of the main function, in milliseconds: smallest and largest.
 pub const PERIOD_LEAST: u64 = 1;
@@ -18,14 +21,7 @@ pub const PERIOD_MOST: u64 = 100;
 // The largest time, in milliseconds, that a parameter may have.
 pub const TIME_MOST: u64 = 65535;
 
-// Ticks, or the configuration rule (1 or 2) that refuses the pair; of the two, one is 0.
-#[derive(Clone, Copy)]
-pub struct Conversion {
-    pub rule: u8,
-    pub ticks: u16,
-}
-
-// A bit of a quotient, and the remainder after it.
+// A bit of a quotient, and the remainder after it: not an `Option`, since both stand in either case.
 #[derive(Clone, Copy)]
 struct QuotientBit {
     bit: u16,
@@ -36,6 +32,7 @@ struct QuotientBit {
 const QUOTIENT_BITS: u32 = 16;
 
 // The next bit of a quotient, where the divisor is shifted to the place of that bit.
+#[tactic(auto, unfolding(crate::specs::LongDivision::next_bit))]
 fn next_bit(remainder: u32, shifted: u32) -> QuotientBit
     ensures { result ≡ next_bit remainder shifted }
 {
@@ -71,23 +68,19 @@ fn rounded_up(period: u8, ms: u16) -> u16
     quotient
 }
 
-// The number of ticks that last at least `ms` milliseconds, at `period` milliseconds a tick.
-pub fn to_ticks(period: u64, ms: u64) -> Conversion
+// The number of ticks that last at least `ms` milliseconds, at `period` milliseconds a tick, or the rule that refuses
+// the pair.
+#[tactic(auto, unfolding(crate::specs::Ticks::conversion_of))]
+pub fn to_ticks(period: u64, ms: u64) -> Result<u16, BrokenRule>
     ensures { result ≡ conversion_of period ms }
 {
-    if period < PERIOD_LEAST {
-        return Conversion { rule: 1, ticks: 0 };
-    }
-    if PERIOD_MOST < period {
-        return Conversion { rule: 1, ticks: 0 };
+    if period < PERIOD_LEAST || PERIOD_MOST < period {
+        return Err(BrokenRule::Period);
     }
     if TIME_MOST < ms {
-        return Conversion { rule: 2, ticks: 0 };
+        return Err(BrokenRule::Bounds);
     }
-    Conversion {
-        rule: 0,
-        ticks: rounded_up(period as u8, ms as u16),
-    }
+    Ok(rounded_up(period as u8, ms as u16))
 }
 
 // Do `count` ticks, and no fewer, last `ms` milliseconds?
@@ -96,23 +89,16 @@ fn covers(period: u64, ms: u64, count: u64) -> bool
     ensures { result ≡ (leb ms (count * period) && ltb (count * period - ms) period) }
 {
     let lasts = count * period;
-    if ms <= lasts {
-        return lasts - ms < period;
-    }
-    false
+    ms <= lasts && lasts - ms < period
 }
 
-// Is a number of ticks the one that `to_ticks` gives? Found by multiplying, so that a kept conversion is cheap to check.
+// Is a number of ticks the one that `to_ticks` gives, 0 where it refuses the pair? Found by multiplying, so that a kept
+// conversion is cheap to check.
+#[tactic(auto, using(crate::proofs::Rounding::covers_is), unfolding(crate::specs::Ticks::conversion_of))]
 pub fn is_conversion(period: u64, ms: u64, ticks: u16) -> bool
-    ensures { result ≡ eqb ticks (conversion_of period ms).ticks }
+    ensures { result ≡ eqb ticks (result_unwrap_or (conversion_of period ms) 0) }
 {
-    if period < PERIOD_LEAST {
-        return ticks == 0;
-    }
-    if PERIOD_MOST < period {
-        return ticks == 0;
-    }
-    if TIME_MOST < ms {
+    if period < PERIOD_LEAST || PERIOD_MOST < period || TIME_MOST < ms {
         return ticks == 0;
     }
     covers(period, ms, ticks as u64)
@@ -122,8 +108,5 @@ pub fn is_conversion(period: u64, ms: u64, ticks: u16) -> bool
 pub fn down(t: u16) -> u16
     ensures { result ≡ t - 1 }
 {
-    if t == 0 {
-        return 0;
-    }
-    t - 1
+    t.saturating_sub(1)
 }

@@ -1,14 +1,14 @@
 -- Rules 1 to 5 of a configuration: its times, in milliseconds and in ticks. Assumes nothing.
 use Rattle.std.specs.Prelude.{ℕ, Bool, ◌&&◌, ◌||◌, leb, ltb, eqb}
+use Rattle.std.specs.Result.{result_unwrap_or}
 use Rattle.ticks.specs.Ticks.{conversion_of}
 use Rattle.config.specs.declared.Config.{Config}
-use Rattle.config.specs.declared.Ticks.{Ticks}
-use Rattle.config.specs.declared.Times.{Times}
+use Rattle.config.specs.Times.{Milliseconds, Ticks}
 use Rattle.config.specs.Bounds.{cycle_row, fast_row, immediate_row, node_row, offset_row, period_row, remote_row, repeat_row, reset_row, timeout_row, wait_row, within}
 
 -- the times of a configuration in ticks of its main function: rules 3 to 5 and 8 compare these
 abbrev pub in_ticks : Config → ℕ → ℕ
-in_ticks c ms = (conversion_of c.period ms).ticks
+in_ticks c ms = result_unwrap_or (conversion_of c.period ms) 0
 
 unfoldable pub ticks_for : Config → Ticks
 ticks_for c =
@@ -28,7 +28,7 @@ unfoldable pub rule1 : Config → Bool
 rule1 c = within period_row c.period
 
 -- 2: every time in milliseconds, the number of fast frames and the node id
-unfoldable pub times_within : Times → Bool
+unfoldable pub times_within : Milliseconds → Bool
 times_within t =
     within timeout_row t.timeout
     && within wait_row t.wait

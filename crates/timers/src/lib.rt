@@ -13,12 +13,9 @@ pub fn count_down(timers: &mut [u16]) -> bool
     ensures { (timers.new ≡ counted_down timers.old) × (result ≡ vectors_differ timers.old (counted_down timers.old)) }
 {
     let mut fell = false;
-    let mut i: usize = 0;
-    while i < timers.len() {
-        let t = timers[i];
-        fell = fell | (t == 1);
-        timers[i] = ticks::down(t);
-        i = i + 1;
+    for t in timers.iter_mut() {
+        fell |= *t == 1;
+        *t = ticks::down(*t);
     }
     fell
 }
@@ -35,17 +32,15 @@ fn timers_of(bytes: usize, n: usize) -> usize
 pub fn load_where(bytes: &[u8], mask: &[u8], reset: u16, timers: &mut [u16]) -> bool
     ensures { (timers.new ≡ loaded_where bytes.now mask.now reset timers.old) × (result ≡ vectors_differ timers.old (loaded_where bytes.now mask.now reset timers.old)) }
 {
-    let end = timers_of(choice::lesser(bytes.len(), mask.len()), timers.len());
+    let end = timers_of(bytes.len().min(mask.len()), timers.len());
     let mut changed = false;
-    let mut i: usize = 0;
-    while i < end {
+    for i in 0..end {
         let marked = bits::bit_of(bytes[i / 8], (i % 8) as u8)
             & bits::bit_of(mask[i / 8], (i % 8) as u8);
         let t = timers[i];
-        let u = choice::pick16(marked, reset, t);
-        changed = changed | ((t == 0) ^ (u == 0));
+        let u = choice::pick(marked, reset, t);
+        changed |= (t == 0) ^ (u == 0);
         timers[i] = u;
-        i = i + 1;
     }
     changed
 }

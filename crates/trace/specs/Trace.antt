@@ -1,8 +1,8 @@
 -- What a trace comes to: as a whole text, and in blocks with the end of the input behind them. Assumes nothing.
-use Rattle.std.specs.Prelude.{◌≡◌, Bool, ◌&&◌, cond, List, [], ◌++◌, ℕ, ◌+◌, leb, length, replicate, take}
+use Rattle.std.specs.Prelude.{◌≡◌, Bool, ◌&&◌, cond, List, [], ◌++◌, ℕ, ◌+◌, leb, length, replicate, take, Err}
 use Rattle.std.proofs.lemmas.List.Edits.{sets}
-use Rattle.answers.specs.declared.Answer.{Answer}
-use Rattle.answers.specs.declared.Answer.TheVariants.{Done, Length}
+use Rattle.answers.specs.declared.Refusal.TheVariants.{Length}
+use Rattle.answers.specs.Answers.{Answer, Done}
 use Rattle.config_line.specs.ConfigLine.{read_config}
 use Rattle.text.specs.Lines.{lines_of}
 use Rattle.blocks.specs.Blocks.{finished_lines, kept_of, line_most, lines_fit}
@@ -74,7 +74,7 @@ taken run s =
 
 -- a block that is refused prints nothing and leaves the trace as it was
 abbrev pub refused : Trace → BlockOutcome
-refused t = record { answer = Length; trace = t; text = [] }
+refused t = record { answer = Err Length; trace = t; text = [] }
 
 -- the text of a block is what was kept before it, and the block
 unfoldable pub block_of : Trace → List ℕ → BlockOutcome

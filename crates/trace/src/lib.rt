@@ -9,60 +9,78 @@
 ghost use Rattle.std.specs.Prelude.{◌≡◌, ◌++◌, ◌+◌, ◌*◌, ◌≤◌, length, take};
 ghost use Rattle.text.specs.Filled.{fill, filled};
 ghost use Rattle.text.specs.Lines.{lines_of};
-ghost use Rattle.runs.specs.Runs.{Gives};
+ghost use Rattle.print.specs.Print.{HasRoom};
+ghost use Rattle.runs.specs.Runs.{Gives, Prints};
 ghost use Rattle.trace_line.specs.TraceLine.{room};
 ghost use Rattle.call_lines.specs.CallLines.{lines_from};
 ghost use Rattle.trace.specs.Trace.{GivesBlock, block_of, block_reply_of, ended, first_run, keeping, refused, start, taken, whole, whole_from};
 
-use answers::Answer;
+use answers::{Answer, Refusal};
 use blocks::LINE_MOST;
+use print::Writer;
 use runs::{Phase, Run, Step};
-use text::Span;
 
 // ---- the lines of a text
 
-// The lines of a text, printed at the start of the buffer. There must be room for what each prints.
-fn lines(run: Run, text: &[u8], out: &mut [u8]) -> Step
-    requires { room * length text.now ≤ length out.old }
-    ensures { Gives (lines_from run (lines_of text.now)) out.old 0 out.new result }
+// The lines of a text. There must be room for what each prints. No `while let`: a running trace is handed over before the
+// next line is looked for, also where none is left.
+fn lines(run: Run, text: &[u8], w: &mut Writer) -> Run
+    requires { HasRoom w.old (room * length text.now) }
+    ensures { Prints (lines_from run (lines_of text.now)) w.old result w.new }
 {
     let mut now = run;
-    let mut put: usize = 0;
     let mut at = 0;
+    // A place is carried along: `split` of a slice gives an empty line behind a last line feed, and no place for `running`.
     loop {
-        let phase = now.phase;
-        if trace_line::is_running(phase) {
-            return call_lines::running(now, text, at, out, put);
+        if trace_line::is_running(now.phase) {
+            return call_lines::running(now, text, at, w);
         }
         match text::line_at(text, at) {
-            Span::Line(first, end) => {
-                let s = trace_line::line(now, &text[first..end], out, put);
-                now = s.run;
-                put = s.at;
+            Some((first, end)) => {
+                now = trace_line::line(now, &text[first..end], w);
                 at = end + 1;
             }
-            Span::End => {
-                return Step { run: now, at: put };
+            None => {
+                return now;
             }
         }
     }
 }
 
+// The same, at the start of a buffer.
+fn put_lines(run: Run, text: &[u8], out: &mut [u8]) -> Step
+    requires { room * length text.now ≤ length out.old }
+    ensures { Gives (lines_from run (lines_of text.now)) out.old 0 out.new result }
+{
+    let mut w = Writer { out, at: 0 };
+    let run = lines(run, text, &mut w);
+    Step { run, at: w.at }
+}
+
 // A text from a run on, up to the end of the input. There must be room for what each line prints, and for a line behind them.
-fn whole_from(run: Run, text: &[u8], out: &mut [u8]) -> Step
+fn whole_from(run: Run, text: &[u8], w: &mut Writer) -> Run
+    requires { HasRoom w.old (room * (length text.now + 1)) }
+    ensures { Prints (whole_from run text.now) w.old result w.new }
+{
+    let last = lines(run, text, w);
+    trace_line::finish(last, w)
+}
+
+// The same, at the start of a buffer.
+fn put_whole(run: Run, text: &[u8], out: &mut [u8]) -> Step
     requires { room * (length text.now + 1) ≤ length out.old }
     ensures { Gives (whole_from run text.now) out.old 0 out.new result }
 {
-    let s = lines(run, text, out);
-    trace_line::finish(s.run, out, s.at)
+    let mut w = Writer { out, at: 0 };
+    let run = whole_from(run, text, &mut w);
+    Step { run, at: w.at }
 }
 
 // The run before the first line.
 fn first_run() -> Run
     ensures { result ≡ first_run }
 {
-    let s = config_line::read_config(b"");
-    config_lines::holding(Phase::First, 0, s.config)
+    config_lines::holding(Phase::First, 0, config_line::blank())
 }
 
 // The text of a trace, all of it at once, for our own programs. There must be room for what each line prints, and for a line
@@ -71,7 +89,7 @@ pub fn whole(text: &[u8], out: &mut [u8]) -> Step
     requires { room * (length text.now + 1) ≤ length out.old }
     ensures { Gives (whole text.now) out.old 0 out.new result }
 {
-    whole_from(first_run(), text, out)
+    put_whole(first_run(), text, out)
 }
 
 // ---- between two blocks
@@ -80,7 +98,7 @@ pub fn whole(text: &[u8], out: &mut [u8]) -> Step
 const KEPT_MOST: usize = LINE_MOST + 1;
 
 // A trace between two blocks: the run up to the last finished line, and what is carried along of the unfinished one, which are
-// the first `kept` bytes of `line`.
+// the first `kept` bytes of `line`. No invariant bounds `kept`: a block is answered for any number there.
 #[derive(Clone, Copy)]
 pub struct Trace {
     pub run: Run,
@@ -119,7 +137,8 @@ const TEXT_MOST: usize = KEPT_MOST + BLOCK_MOST;
 // Room for what a block prints, since each of its lines has a byte at least. The end of the input prints less.
 pub const BLOCK_ROOM: usize = trace_line::ROOM * TEXT_MOST;
 
-// The answer to a block, the trace behind it, and how many bytes it printed.
+// The answer to a block, the trace behind it, and how many bytes it printed. No `Result`: a refused block gives back the
+// same trace beside the answer.
 #[derive(Clone, Copy)]
 pub struct BlockReply {
     pub answer: Answer,
@@ -144,11 +163,10 @@ fn taken(run: Run, text: &[u8], out: &mut [u8]) -> BlockReply
     ensures { GivesBlock (taken run text.now) out.old out.new result }
 {
     let end = blocks::finished_len(text);
-    let s = lines(run, slices::part(text, 0, end), out);
-    let trace = keeping(s.run, slices::part(text, end, KEPT_MOST));
+    let s = put_lines(run, slices::part(text, 0, end), out);
     BlockReply {
-        answer: Answer::Done,
-        trace: trace,
+        answer: Ok(()),
+        trace: keeping(s.run, slices::part(text, end, KEPT_MOST)),
         at: s.at,
     }
 }
@@ -158,7 +176,7 @@ fn refused(trace: Trace) -> BlockReply
     ensures { result ≡ block_reply_of (refused trace) }
 {
     BlockReply {
-        answer: Answer::Length,
+        answer: Err(Refusal::Length),
         trace: trace,
         at: 0,
     }
@@ -191,5 +209,5 @@ pub fn end(trace: Trace, out: &mut [u8; BLOCK_ROOM]) -> Step
     ensures { Gives (ended trace) out.old 0 out.new result }
 {
     let line = trace.line;
-    whole_from(trace.run, slices::part(&line, 0, trace.kept), out)
+    put_whole(trace.run, slices::part(&line, 0, trace.kept), out)
 }

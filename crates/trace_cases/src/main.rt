@@ -6,13 +6,13 @@
 #![tactic(auto)]
 
 ghost use Rattle.std.specs.Prelude.{◌≡◌, true, ◌++◌, ◌+◌, ◌≤◌, length, take};
-ghost use Rattle.print.specs.Print.{Wrote};
+ghost use Rattle.print.specs.Print.{HasRoom, Puts};
 ghost use Rattle.trace.specs.Trace.{printed};
 
+use print::Writer;
 use std::fs;
 use std::io::Read;
 use std::rt::Files;
-use text::Span;
 
 // ---- sizes: what is longer counts as a difference
 
@@ -28,41 +28,22 @@ const OUTPUT: usize = trace_line::ROOM * (FILE_MOST + 1);
 
 // ---- files
 
-// Bytes behind what the buffer has up to a place. There must be room for them.
-fn put_bytes(out: &mut [u8], at: usize, bytes: &[u8]) -> usize
-    requires { at + length bytes.now ≤ length out.old }
-    ensures { Wrote out.old at bytes.now out.new result }
+// The name of a file. There must be room for it.
+fn put_path(w: &mut Writer, name: &[u8], ending: &[u8])
+    requires { HasRoom w.old (length name.now + length ending.now) }
+    ensures { Puts w.old (name.now ++ ending.now) w.new }
 {
-    let mut p = at;
-    let mut i = 0;
-    while i < bytes.len() {
-        p = print::put(out, p, bytes[i]);
-        i += 1;
-    }
-    p
+    w.put_all(name);
+    w.put_all(ending);
 }
 
-// The name of a file in front of the buffer. There must be room for it.
-fn put_path(path: &mut [u8], name: &[u8], ending: &[u8]) -> usize
-    requires { length name.now + length ending.now ≤ length path.old }
-    ensures { Wrote path.old 0 (name.now ++ ending.now) path.new result }
-{
-    let at = put_bytes(path, 0, name);
-    put_bytes(path, at, ending)
-}
-
-// Is a whole file in front of a buffer, and in how many bytes? A file without bytes is whole in 0.
-#[derive(Clone, Copy)]
-struct Got {
-    whole: bool,
-    n: usize,
-}
-
-// Reads until the buffer is full, the file ends or a read fails. Answers how many bytes stand in front of the buffer.
+// Reads until the buffer is full, the file ends or a read fails. Answers how many bytes stand in front of the buffer. Counted,
+// since a read may give fewer bytes than there is room for, and `read_exact` does not tell how many came before an error.
 fn read_full<F: Read>(file: &mut F, buf: &mut [u8]) -> usize
     ensures { result ≤ length buf.new }
 {
     let mut done = 0;
+    // By hand: of a file that ends before the buffer is full `read_exact` says no count.
     while done < buf.len() {
         match file.read(&mut buf[done..]) {
             Ok(0) | Err(_) => break,
@@ -72,31 +53,32 @@ fn read_full<F: Read>(file: &mut F, buf: &mut [u8]) -> usize
     done
 }
 
-// A file is whole where a read behind its last byte tells that nothing follows: not where its name is no UTF-8 text, where it
-// can't be opened or read, or where it is longer than the buffer.
-fn read_file<R: Files>(rt: &R, path: &[u8], buf: &mut [u8]) -> Got {
-    let Ok(name) = str::from_utf8(path) else {
-        return Got { whole: false, n: 0 };
-    };
-    let Ok(mut file) = fs::open(rt, name) else {
-        return Got { whole: false, n: 0 };
-    };
+// How many bytes a whole file has, which then stand in front of the buffer. A file is whole where a read behind its last byte
+// tells that nothing follows: not where its name is no UTF-8 text, where it can't be opened or read, or where it is longer than
+// the buffer.
+fn read_file<R: Files>(rt: &R, path: &[u8], buf: &mut [u8]) -> Option<usize> {
+    let name = str::from_utf8(path).ok()?;
+    let mut file = fs::open(rt, name).ok()?;
     let n = read_full(&mut file, buf);
     let mut behind = [0u8; 1];
-    let more = file.read(&mut behind);
-    Got {
-        whole: matches!(more, Ok(0)),
-        n: n,
+    match file.read(&mut behind) {
+        Ok(0) => Some(n),
+        _ => None,
     }
 }
 
 // A file of a trace, by the trace's name and what its own name ends in.
-fn read_named<R: Files>(rt: &R, name: &[u8], ending: &[u8], buf: &mut [u8]) -> Got {
+fn read_named<R: Files>(rt: &R, name: &[u8], ending: &[u8], buf: &mut [u8]) -> Option<usize> {
     if PATH_MOST < name.len() + ending.len() {
-        return Got { whole: false, n: 0 };
+        return None;
     }
     let mut path = [0u8; PATH_MOST];
-    let n = put_path(&mut path, name, ending);
+    let mut w = Writer {
+        out: &mut path,
+        at: 0,
+    };
+    put_path(&mut w, name, ending);
+    let n = w.at;
     read_file(rt, &path[..n], buf)
 }
 
@@ -120,13 +102,10 @@ fn agrees<R: Files>(
 ) -> bool {
     let t = read_named(rt, name, b".trace", text);
     let s = read_named(rt, name, b".out", stored);
-    if !t.whole {
-        return false;
+    match (t, s) {
+        (Some(t), Some(s)) => passes(text, t, slices::part(stored, 0, s), out),
+        _ => false,
     }
-    if !s.whole {
-        return false;
-    }
-    passes(text, t.n, slices::part(stored, 0, s.n), out)
 }
 
 // Says that a trace differs, or the list itself. A write that fails changes nothing but what is printed.
@@ -162,13 +141,14 @@ fn count<R: Files + Print>(
 ) -> u64 {
     let mut good: u64 = 0;
     let mut at = 0;
+    // A place is carried along: `split` of a slice gives an empty line behind a last line feed.
     loop {
         match text::line_at(names, at) {
-            Span::Line(first, end) => {
+            Some((first, end)) => {
                 good += judged(rt, &names[first..end], text, stored, out);
                 at = end + 1;
             }
-            Span::End => {
+            None => {
                 return good;
             }
         }
@@ -183,12 +163,11 @@ fn run<R: Files + Print>(
     out: &mut [u8; OUTPUT],
 ) {
     let list = b"names";
-    let g = read_file(rt, list, names);
-    if !g.whole {
+    let Some(n) = read_file(rt, list, names) else {
         tell(rt, list);
         return;
-    }
-    let good = count(rt, slices::part(names, 0, g.n), text, stored, out);
+    };
+    let good = count(rt, slices::part(names, 0, n), text, stored, out);
     let _ = println!(rt; "{good} traces print what is stored");
 }
 

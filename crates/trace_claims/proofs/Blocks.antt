@@ -7,7 +7,9 @@ use native.Mathlib.Omega.{arith}
 use lib.Dec.{leb}
 use lib.ListN.{length, replicate}
 use borrow.Author.Tests.{le-leb, leb-true}
-use Rattle.answers.specs.declared.Answer.TheVariants.{Done, Length}
+use Rattle.std.specs.Prelude.{Err}
+use Rattle.answers.specs.declared.Refusal.TheVariants.{Length}
+use Rattle.answers.specs.Answers.{Done}
 use Rattle.text.specs.Lines.{lines_of}
 use Rattle.text.proofs.Filled.{filled_front}
 use Rattle.text.proofs.Lines.{lines_grow}
@@ -202,7 +204,7 @@ every_block_is_judged bs b =
     h : Countable s
     h = countable_behind [] bs none
 
-    by_fit : (t : Bool) → (cond t (next s b h) (refused (trace_behind s))).answer ≡ cond t Done Length
+    by_fit : (t : Bool) → (cond t (next s b h) (refused (trace_behind s))).answer ≡ cond t Done (Err Length)
     by_fit true = refl
     by_fit false = refl
 

@@ -5,8 +5,8 @@ use Prim.Native.Nat.{ℕ, ◌+◌, ◌≤◌, ◌<◌}
 use native.Mathlib.Omega.{arith}
 use lib.ListN.{length}
 use borrow.Author.Tests.{lt-ltb}
-use Rattle.command_names.specs.declared.Asked.{Asked}
-use Rattle.command_names.specs.declared.Asked.TheVariants.{Unreadable, Call}
+use Rattle.command_names.specs.declared.Command.{Command}
+use Rattle.std.specs.Prelude.{Option, Some, None}
 use Rattle.config_line.specs.ConfigLine.{read_config}
 use Rattle.pn_line.specs.PnLine.{is_partial, read_partial}
 use Rattle.blocks.specs.Blocks.{lines_most}
@@ -28,9 +28,9 @@ later_lines : (run : Run) (l : List ℕ) → Counts run (later_line run l)
 unfolding later_line unread called replied_with passed
 later_lines run l = by_asked (reading_of l).asked (reading_of l).bytes
   where
-    by_asked : (a : Asked) (bytes : List ℕ) → Counts run (doing run a bytes)
-    by_asked Unreadable bytes = refl
-    by_asked (Call k) bytes = refl
+    by_asked : (a : Option Command) (bytes : List ℕ) → Counts run (doing run a bytes)
+    by_asked None bytes = refl
+    by_asked (Some k) bytes = refl
 
 first_lines : (run : Run) (l : List ℕ) → Counts run (first_line run l)
 unfolding first_line holding broken passed

@@ -7,7 +7,7 @@ use lib.ListN.{replicate}
 use Rattle.commands.specs.Commands.{Reading}
 use Rattle.commands.proofs.Cut.{reading_cut}
 use Rattle.config.specs.declared.Config.{Config}
-use Rattle.settings.specs.declared.Setting.{Setting}
+use Rattle.settings.specs.Settings.{Setting}
 use Rattle.settings.proofs.Cut.{Alike}
 use Rattle.config_line.proofs.Cut.{read_config_cut}
 use Rattle.pn_line.proofs.Cut.{is_partial_cut, read_partial_cut}

@@ -7,10 +7,13 @@ use native.Mathlib.Omega.{arith}
 use lib.Dec.{eqb}
 use borrow.Author.Tests.{eqb-true}
 use Rattle.channel.specs.declared.state.Channel.{Channel}
-use Rattle.answers.specs.declared.Answer.TheVariants.{Done, Rule}
+use Rattle.std.specs.Prelude.{Result, Ok, Err, is_ok, ⊤}
+use Rattle.answers.specs.declared.BrokenRule.{BrokenRule}
+use Rattle.answers.specs.Answers.{Done, ruled}
+use Rattle.rules.proofs.Passes.{kept}
 use Rattle.channel.specs.Channel.{replied, fresh, initialised, started, zero}
-use Rattle.command_names.specs.declared.Asked.{Asked}
-use Rattle.command_names.specs.declared.Asked.TheVariants.{Unreadable, Call}
+use Rattle.command_names.specs.declared.Command.{Command}
+use Rattle.std.specs.Prelude.{Option, Some, None}
 use Rattle.config.specs.declared.Config.{Config}
 use Rattle.rules.specs.Rules.{first_broken}
 use Rattle.time_rules.specs.TimeRules.{ticks_for}
@@ -52,18 +55,18 @@ pub later_phase : (run : Run) (l : List ℕ) → (later_line run l).run.phase �
 unfolding later_line unread called replied_with passed
 later_phase run l = by_asked (reading_of l).asked (reading_of l).bytes
   where
-    by_asked : (a : Asked) (bytes : List ℕ) → (doing run a bytes).run.phase ≡ Running
-    by_asked Unreadable bytes = refl
-    by_asked (Call k) bytes = refl
+    by_asked : (a : Option Command) (bytes : List ℕ) → (doing run a bytes).run.phase ≡ Running
+    by_asked None bytes = refl
+    by_asked (Some k) bytes = refl
 
 later_channel : (run : Run) (l : List ℕ)
     → (later_line run l).run.channel ≡ sleep.after run.channel (calls_of (reading_of l).asked (reading_of l).bytes)
 unfolding later_line unread called replied_with passed carried_out_by
 later_channel run l = by_asked (reading_of l).asked (reading_of l).bytes
   where
-    by_asked : (a : Asked) (bytes : List ℕ) → (doing run a bytes).run.channel ≡ sleep.after run.channel (calls_of a bytes)
-    by_asked Unreadable bytes = refl
-    by_asked (Call k) bytes = refl
+    by_asked : (a : Option Command) (bytes : List ℕ) → (doing run a bytes).run.channel ≡ sleep.after run.channel (calls_of a bytes)
+    by_asked None bytes = refl
+    by_asked (Some k) bytes = refl
 
 after_append : (ch : Channel) (a b : List calls.Call) → sleep.after (sleep.after ch a) b ≡ sleep.after ch (a ++ b)
 after_append ch [] b = refl
@@ -86,27 +89,27 @@ running run (l ∷ ls) e =
 
 -- the run's channel is what calls reach in one of a configuration that passes
 pub record From (c : Config) (xs : List calls.Call) (run : Run) : Type 0 where
-  pub passes : first_broken c ≡ 0
+  pub passes : first_broken c ≡ Ok tt
   pub channel : run.channel ≡ reached c xs
 
 begun_run : (c : Config) (n : ℕ)
-    → (begun c n).run ≡ cond (eqb (first_broken c) 0) (run_of Running n (fresh c (ticks_for c))) (run_of Ended n zero)
+    → (begun c n).run ≡ cond (is_ok (first_broken c)) (run_of Running n (fresh c (ticks_for c))) (run_of Ended n zero)
 unfolding begun initialised
-begun_run c n = by_rule (eqb (first_broken c) 0)
+begun_run c n = by_rule (first_broken c)
   where
-    by_rule : (t : Bool)
-        → (let s = cond t (started (fresh c (ticks_for c)) Done) (started zero (Rule (first_broken c))) in run_of (judged_phase (is_done s.answer)) n s.channel)
-        ≡ cond t (run_of Running n (fresh c (ticks_for c))) (run_of Ended n zero)
-    by_rule true = refl
-    by_rule false = refl
+    by_rule : (r : Result ⊤ BrokenRule)
+        → (let s = cond (is_ok r) (started (fresh c (ticks_for c)) Done) (started zero (ruled r)) in run_of (judged_phase (is_done s.answer)) n s.channel)
+        ≡ cond (is_ok r) (run_of Running n (fresh c (ticks_for c))) (run_of Ended n zero)
+    by_rule (Ok done) = refl
+    by_rule (Err rule) = refl
 
 pub begun_from : (c : Config) (n : ℕ) (ls : List (List ℕ)) → (after step_of (begun c n).run ls).phase ≡ Running → From c (calls_in ls) (after step_of (begun c n).run ls)
-begun_from c n ls h = rw (begun_run c n) (by_rule (eqb (first_broken c) 0) refl (rw (begun_run c n) at h))
+begun_from c n ls h = rw (begun_run c n) (by_rule (is_ok (first_broken c)) refl (rw (begun_run c n) at h))
   where
-    by_rule : (t : Bool) → eqb (first_broken c) 0 ≡ t
+    by_rule : (t : Bool) → is_ok (first_broken c) ≡ t
         → (after step_of (cond t (run_of Running n (fresh c (ticks_for c))) (run_of Ended n zero)) ls).phase ≡ Running
         → From c (calls_in ls) (after step_of (cond t (run_of Running n (fresh c (ticks_for c))) (run_of Ended n zero)) ls)
-    by_rule true e r = record { passes = eqb-true (first_broken c) 0 e; channel = running (run_of Running n (fresh c (ticks_for c))) ls refl }
+    by_rule true e r = record { passes = kept (first_broken c) e; channel = running (run_of Running n (fresh c (ticks_for c))) ls refl }
     by_rule false e r = absurd (not_running (ended_stays (run_of Ended n zero) ls refl) r)
 
 -- ---- line 2
@@ -114,7 +117,7 @@ begun_from c n ls h = rw (begun_run c n) (by_rule (eqb (first_broken c) 0) refl 
 -- a line behind the judged configuration is a line like any other
 following_step : (c : Config) (n : ℕ) (l : List ℕ) → (following (begun c n).run l).run ≡ step_of (begun c n).run l
 unfolding following line_in
-following_step c n l = rw (begun_run c n) (by_rule (eqb (first_broken c) 0))
+following_step c n l = rw (begun_run c n) (by_rule (is_ok (first_broken c)))
   where
     by_rule : (t : Bool)
         → (following (cond t (run_of Running n (fresh c (ticks_for c))) (run_of Ended n zero)) l).run

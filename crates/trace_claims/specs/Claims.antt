@@ -1,8 +1,8 @@
 -- What a trace comes to, as a whole: the claims, with no proof. Assumes nothing.
-use Rattle.std.specs.Prelude.{◌≡◌, Bool, ◌&&◌, cond, List, [], ◌∷◌, ◌++◌, ℕ, ◌≤◌, leb, length}
-use Rattle.answers.specs.declared.Answer.TheVariants.{Done, Length}
-use Rattle.command_names.specs.declared.Asked.{Asked}
-use Rattle.command_names.specs.declared.Asked.TheVariants.{Unreadable, Call}
+use Rattle.std.specs.Prelude.{◌≡◌, Bool, ◌&&◌, cond, List, [], ◌∷◌, ◌++◌, ℕ, ◌≤◌, leb, length, Ok, Err, Option, Some, None}
+use Rattle.answers.specs.declared.Refusal.TheVariants.{Length}
+use Rattle.answers.specs.Answers.{Done}
+use Rattle.command_names.specs.declared.Command.{Command}
 use Rattle.config.specs.declared.Config.{Config}
 use Rattle.rules.specs.Rules.{first_broken}
 use Rattle.decision.specs.Decision as calls
@@ -25,9 +25,9 @@ use Rattle.config.specs.Ranges.{pdu_most}
 -- ---- the calls of a trace
 
 -- the call of a line, none where it can't be read
-abbrev pub calls_of : Asked → List ℕ → List calls.Call
-calls_of Unreadable bytes = []
-calls_of (Call k) bytes = call_for k bytes pdu_most ∷ []
+abbrev pub calls_of : Option Command → List ℕ → List calls.Call
+calls_of None bytes = []
+calls_of (Some k) bytes = call_for k bytes pdu_most ∷ []
 
 -- the calls of lines in their order
 unfoldable pub calls_in : List (List ℕ) → List calls.Call
@@ -49,7 +49,7 @@ lines_behind (l ∷ m ∷ ls) = cond (is_partial m) ls (m ∷ ls)
 -- a run that goes on behind some lines
 pub record Reaches (ls : List (List ℕ)) (run : Run) : Type 0 where
   -- the configuration passes
-  pub passes : first_broken (config_in ls) ≡ 0
+  pub passes : first_broken (config_in ls) ≡ Ok tt
   -- the channel is the one that the calls reach from initialisation
   pub channel : run.channel ≡ reached (config_in ls) (calls_in (lines_behind ls))
   -- so what is proved of the tick in which such a channel sleeps holds of it
@@ -105,7 +105,7 @@ EveryCutIsOfItsText = (bs : List (List ℕ)) → after_blocks start bs ≡ after
 
 -- a block is taken exactly if it fits behind the text so far
 abbrev pub EveryBlockIsJudged : Type 0
-EveryBlockIsJudged = (bs : List (List ℕ)) (b : List ℕ) → (block_of (after_blocks start bs).trace b).answer ≡ cond (fits (taken_text bs) b) Done Length
+EveryBlockIsJudged = (bs : List (List ℕ)) (b : List ℕ) → (block_of (after_blocks start bs).trace b).answer ≡ cond (fits (taken_text bs) b) Done (Err Length)
 
 -- what blocks and the end of the input come to
 abbrev pub over_blocks : List (List ℕ) → Outcome

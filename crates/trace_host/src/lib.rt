@@ -5,8 +5,6 @@
 // comes to (`trace`).
 #![tactic(auto)]
 
-ghost use Rattle.std.specs.Prelude.{◌≤◌};
-
 use runs::Run;
 use trace::{BLOCK_ROOM, Trace};
 
@@ -38,18 +36,9 @@ struct Went {
 
 // The trace as if so many lines had come before.
 fn counting(trace: Trace, lines: u64) -> Trace {
-    let run = trace.run;
-    let phase = run.phase;
-    let channel = run.channel;
-    let line = trace.line;
     Trace {
-        run: Run {
-            phase: phase,
-            lines: lines,
-            channel: channel,
-        },
-        line: line,
-        kept: trace.kept,
+        run: Run { lines, ..trace.run },
+        ..trace
     }
 }
 
@@ -94,13 +83,6 @@ fn one(
     }
 }
 
-// The larger of two places.
-fn larger(a: usize, b: usize) -> usize
-    ensures { a ≤ result }
-{
-    if a < b { b } else { a }
-}
-
 // The blocks of a text, by the place behind each. Before one of them the count of lines is set.
 fn all(
     text: &[u8],
@@ -116,24 +98,12 @@ fn all(
         printed: 0,
     };
     let mut from: usize = 0;
-    let mut k: usize = 0;
-    while k < ends.len() {
-        let to = larger(from, ends[k] as usize);
+    for (k, end) in ends.iter().enumerate() {
+        let to = from.max(*end as usize);
         let trace = counting_at(w.trace, k, before, lines);
         let block = slices::part(text, from, to - from);
-        w = one(
-            Went {
-                trace: trace,
-                printed: w.printed,
-            },
-            block,
-            k,
-            answers,
-            out,
-            page,
-        );
+        w = one(Went { trace, ..w }, block, k, answers, out, page);
         from = to;
-        k += 1;
     }
     w
 }

@@ -3,20 +3,20 @@ use mathlib.Core.Path.{◌≡◌, refl, sym, subst}
 use mathlib.Core.Bool.{true, false≢true}
 use mathlib.Core.List.{List}
 use Prim.Native.Nat.{ℕ}
-use Rattle.print.proofs.Wrote.{then}
+use Rattle.print.specs.declared.Writer.{Writer}
+use Rattle.print.proofs.Wrote.{puts_then}
 use Rattle.runs.specs.declared.Phase.{Phase}
 use Rattle.runs.specs.declared.Phase.TheVariants.{First, Second, Running, Ended}
 use Rattle.runs.specs.declared.Run.{Run}
-use Rattle.runs.specs.declared.Step.{Step}
-use Rattle.runs.specs.Runs.{Gives, Outcome}
+use Rattle.runs.specs.Runs.{Outcome, Prints}
 use Rattle.trace_line.specs.TraceLine.{and_then, is_running, line_in, line_of}
 
-pub gives_then : {o p : Outcome} {l m n : List ℕ} {i : ℕ} {s t : Step} → Gives o l i m s → Gives p m s.at n t → Gives (and_then o p) l i n t
-gives_then v w = record { run = w.run; text = then v.text w.text }
+pub prints_then : {o p : Outcome} {u v w : Writer} {r s : Run} → Prints o u r v → Prints p v s w → Prints (and_then o p) u s w
+prints_then g h = record { run = h.run; text = puts_then g.text h.text }
 
 -- a line in the phase of its run
-pub gives_in : (run : Run) (l : List ℕ) {p : Phase} {k m : List ℕ} {i : ℕ} {s : Step} → run.phase ≡ p → Gives (line_in p run l) k i m s → Gives (line_of run l) k i m s
-gives_in run l {p} {k} {m} {i} {s} e g = subst (λ (q : Phase). Gives (line_in q run l) k i m s) (sym e) g
+pub prints_in : (run : Run) (l : List ℕ) {p : Phase} {w v : Writer} {r : Run} → run.phase ≡ p → Prints (line_in p run l) w r v → Prints (line_of run l) w r v
+prints_in run l {p} {w} {v} {r} e g = subst (λ (q : Phase). Prints (line_in q run l) w r v) (sym e) g
 
 -- a phase that tests as running is
 pub running_true : (p : Phase) → is_running p ≡ true → p ≡ Running

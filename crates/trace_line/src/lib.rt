@@ -5,83 +5,73 @@
 // come to, and the run over all lines (`trace`).
 #![tactic(auto)]
 
-ghost use Rattle.std.specs.Prelude.{◌≡◌, ◌+◌, ◌*◌, ◌≤◌, length};
-ghost use Rattle.runs.specs.Runs.{Gives};
+ghost use Rattle.std.specs.Prelude.{◌≡◌, ◌+◌, ◌*◌};
+ghost use Rattle.print.specs.Print.{HasRoom};
+ghost use Rattle.runs.specs.Runs.{Prints};
 ghost use Rattle.trace_line.specs.TraceLine.{ending, following, is_running, line_of, room, second_line};
 ghost use Rattle.report.specs.Report.{report_most};
 ghost use Rattle.config.specs.Ranges.{pdu_most};
 
-use runs::{Phase, Run, Step};
+use print::Writer;
+use runs::{Phase, Run};
 
 // Does the next line ask for a call?
 pub fn is_running(phase: Phase) -> bool
     ensures { result ≡ is_running phase }
 {
-    match phase {
-        Phase::First => false,
-        Phase::Second => false,
-        Phase::Running => true,
-        Phase::Ended => false,
-    }
+    matches!(phase, Phase::Running)
 }
 
 // A line behind the judged configuration. There must be room for the longest line.
-fn follow(run: Run, l: &[u8], out: &mut [u8], at: usize) -> Step
-    requires { at + report_most + 2 * pdu_most ≤ length out.old }
-    ensures { Gives (following run l.now) out.old at out.new result }
+#[tactic(auto, unfolding(crate::specs::TraceLine::following))]
+fn follow(run: Run, l: &[u8], w: &mut Writer) -> Run
+    requires { HasRoom w.old (report_most + 2 * pdu_most) }
+    ensures { Prints (following run l.now) w.old result w.new }
 {
-    let phase = run.phase;
-    if is_running(phase) {
-        return replay::later_line(run, l, out, at);
+    if is_running(run.phase) {
+        return replay::later_line(run, l, w);
     }
-    Step {
-        run: runs::passed(run, phase),
-        at: at,
-    }
+    runs::passed(run, run.phase)
 }
 
 // Line 2. There must be room for what it prints.
-fn second_line(run: Run, l: &[u8], out: &mut [u8], at: usize) -> Step
-    requires { at + room ≤ length out.old }
-    ensures { Gives (second_line run l.now) out.old at out.new result }
+#[tactic(auto, unfolding(crate::specs::TraceLine::second_line))]
+fn second_line(run: Run, l: &[u8], w: &mut Writer) -> Run
+    requires { HasRoom w.old room }
+    ensures { Prints (second_line run l.now) w.old result w.new }
 {
     if pn_line::is_partial(l) {
-        return config_lines::partial_line(run, l, out, at);
+        return config_lines::partial_line(run, l, w);
     }
-    let s = config_lines::begin(run.channel.own.config, run.lines, out, at);
-    follow(s.run, l, out, s.at)
+    let begun = config_lines::begin(run.channel.own.config, run.lines, w);
+    follow(begun, l, w)
 }
 
 // Room for what a line prints.
 pub const ROOM: usize = 65;
 
 // A line of a trace. There must be room for what it prints.
-pub fn line(run: Run, l: &[u8], out: &mut [u8], at: usize) -> Step
-    requires { at + room ≤ length out.old }
-    ensures { Gives (line_of run l.now) out.old at out.new result }
+#[tactic(auto, unfolding(crate::specs::TraceLine::line_in))]
+pub fn line(run: Run, l: &[u8], w: &mut Writer) -> Run
+    requires { HasRoom w.old room }
+    ensures { Prints (line_of run l.now) w.old result w.new }
 {
-    let phase = run.phase;
-    match phase {
-        Phase::First => config_lines::first_line(run, l, out, at),
-        Phase::Second => second_line(run, l, out, at),
-        Phase::Running => replay::later_line(run, l, out, at),
-        Phase::Ended => Step {
-            run: runs::passed(run, Phase::Ended),
-            at: at,
-        },
+    match run.phase {
+        Phase::First => config_lines::first_line(run, l, w),
+        Phase::Second => second_line(run, l, w),
+        Phase::Running => replay::later_line(run, l, w),
+        Phase::Ended => runs::passed(run, Phase::Ended),
     }
 }
 
 // The end of the input: a configuration that waits for line 2 is judged. There must be room for a line.
-pub fn finish(run: Run, out: &mut [u8], at: usize) -> Step
-    requires { at + report_most ≤ length out.old }
-    ensures { Gives (ending run) out.old at out.new result }
+#[tactic(auto, unfolding(crate::specs::TraceLine::ending))]
+pub fn finish(run: Run, w: &mut Writer) -> Run
+    requires { HasRoom w.old report_most }
+    ensures { Prints (ending run) w.old result w.new }
 {
-    let phase = run.phase;
-    match phase {
-        Phase::Second => config_lines::begin(run.channel.own.config, run.lines, out, at),
-        Phase::First => Step { run: run, at: at },
-        Phase::Running => Step { run: run, at: at },
-        Phase::Ended => Step { run: run, at: at },
+    match run.phase {
+        Phase::Second => config_lines::begin(run.channel.own.config, run.lines, w),
+        Phase::First | Phase::Running | Phase::Ended => run,
     }
 }

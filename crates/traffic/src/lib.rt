@@ -11,7 +11,8 @@ ghost use Rattle.traffic.specs.Traffic.{first_message, heard_in_normal, heard_in
 use config::{Config, Ticks};
 use states::{Mode, Traffic};
 
-// What the rules here need of the configuration.
+// What the rules here need of the configuration. A setup and a traffic stay two arguments: no fact ties them, and a
+// struct of both would be taken apart and built again in each rule.
 #[derive(Clone, Copy)]
 pub struct Setup {
     pub ticks: Ticks,
@@ -19,6 +20,7 @@ pub struct Setup {
     pub passive: bool,
 }
 
+#[tactic(auto, unfolding(crate::specs::Traffic::setup_of))]
 pub fn setup_of(c: Config, t: Ticks) -> Setup
     ensures { result ≡ setup_of c t }
 {
@@ -32,22 +34,20 @@ pub fn setup_of(c: Config, t: Ticks) -> Setup
 fn first_message(s: Setup) -> u16
     ensures { result ≡ first_message s }
 {
-    choice::pick16(
-        s.passive,
-        0,
-        choice::pick16(s.ticks.offset < 1, 1, s.ticks.offset),
-    )
+    if s.passive { 0 } else { s.ticks.offset.max(1) }
 }
 
+#[tactic(auto, unfolding(crate::specs::Traffic::to_repeat))]
 pub fn to_repeat(s: Setup, x: Traffic) -> Traffic
     ensures { result ≡ to_repeat s x }
 {
-    let mut y = x;
-    y.message = first_message(s);
-    y.fast = 0;
-    y.remote = 0;
-    y.indicated = false;
-    y
+    Traffic {
+        message: first_message(s),
+        fast: 0,
+        remote: 0,
+        indicated: false,
+        ..x
+    }
 }
 
 // Starts fast frames (AUTOSAR: immediate transmissions), if there are any.
@@ -55,82 +55,99 @@ fn fast_frames(s: Setup, x: Traffic) -> Traffic
     ensures { result ≡ with_fast s x }
 {
     let any = 0 < s.immediate;
-    let mut y = x;
-    y.message = choice::pick16(any, 1, x.message);
-    y.fast = choice::pick16(any, s.immediate, x.fast);
-    y
+    Traffic {
+        message: choice::pick(any, 1, x.message),
+        fast: choice::pick(any, s.immediate, x.fast),
+        ..x
+    }
 }
 
+// Not one function with `to_repeat_asked`: the two set different fields, so that no constant tells them apart.
+#[tactic(auto, unfolding(crate::specs::Traffic::to_repeat_active))]
 pub fn to_repeat_active(s: Setup, x: Traffic) -> Traffic
     ensures { result ≡ to_repeat_active s x }
 {
-    let mut y = to_repeat(s, x);
-    y.waking = true;
-    fast_frames(s, y)
+    let awake = Traffic { waking: true, ..x };
+    fast_frames(s, to_repeat(s, awake))
 }
 
+#[tactic(auto, unfolding(crate::specs::Traffic::to_repeat_asked))]
 pub fn to_repeat_asked(s: Setup, x: Traffic) -> Traffic
     ensures { result ≡ to_repeat_asked s x }
 {
-    let mut y = to_repeat(s, x);
-    y.repeating = true;
-    fast_frames(s, y)
+    let asked = Traffic {
+        repeating: true,
+        ..x
+    };
+    fast_frames(s, to_repeat(s, asked))
 }
 
 // The remote timer where Normal Operation starts it.
 pub fn watching(s: Setup, x: Traffic) -> u16
     ensures { result ≡ watching s x }
 {
-    choice::pick16(x.indicated, 0, s.ticks.remote)
+    choice::pick(x.indicated, 0, s.ticks.remote)
 }
 
+#[tactic(auto, unfolding(crate::specs::Traffic::to_normal))]
 pub fn to_normal(s: Setup, x: Traffic) -> Traffic
     ensures { result ≡ to_normal s x }
 {
-    let mut y = x;
-    y.message = 1;
-    y.remote = watching(s, x);
-    y
+    Traffic {
+        message: 1,
+        remote: watching(s, x),
+        ..x
+    }
 }
 
+#[tactic(auto, unfolding(crate::specs::Traffic::to_ready))]
 pub fn to_ready(x: Traffic) -> Traffic
     ensures { result ≡ to_ready x }
 {
-    let mut y = x;
-    y.message = 0;
-    y.remote = 0;
-    y
+    Traffic {
+        message: 0,
+        remote: 0,
+        ..x
+    }
 }
 
+#[tactic(auto, unfolding(crate::specs::Traffic::resumed))]
 pub fn resumed(m: Mode, x: Traffic) -> Traffic
     ensures { result ≡ resumed m x }
 {
-    let state = m.state;
-    let mut y = x;
-    let stopped = !m.sending & states::transmits(state);
-    y.message = choice::pick16(stopped, 1, x.message);
-    y
+    let stopped = !m.sending & states::transmits(m.state);
+    Traffic {
+        message: choice::pick(stopped, 1, x.message),
+        ..x
+    }
 }
 
+// Not one function with `heard_in_ready`: this one sets a timer that the other keeps, so that no constant tells them apart.
+#[tactic(auto, unfolding(crate::specs::Traffic::heard_in_normal))]
 pub fn heard_in_normal(again: bool, s: Setup, x: Traffic) -> Traffic
     ensures { result ≡ heard_in_normal again s x }
 {
     if again {
-        return to_repeat(s, x);
+        to_repeat(s, x)
+    } else {
+        Traffic {
+            remote: s.ticks.remote,
+            indicated: false,
+            ..x
+        }
     }
-    let mut y = x;
-    y.remote = s.ticks.remote;
-    y.indicated = false;
-    y
 }
 
+#[tactic(auto, unfolding(crate::specs::Traffic::heard_in_ready))]
 pub fn heard_in_ready(again: bool, s: Setup, x: Traffic) -> Traffic
     ensures { result ≡ heard_in_ready again s x }
 {
     if again {
-        return to_repeat(s, x);
+        to_repeat(s, x)
+    } else {
+        Traffic {
+            indicated: false,
+            ..x
+        }
     }
-    let mut y = x;
-    y.indicated = false;
-    y
 }

@@ -11,46 +11,57 @@ use states::{Mode, State, Traffic};
 use traffic::Setup;
 
 // Step a in Ready Sleep.
+#[tactic(auto, unfolding(crate::specs::TrafficSteps::in_ready))]
 pub fn in_ready(after: State, x: Traffic) -> Traffic
     ensures { result ≡ in_ready after x }
 {
-    let mut y = x;
-    if states::is_prepare(after) {
-        y.indicated = false;
-        y.waking = false;
-        return y;
+    if after == State::PrepareBusSleep {
+        Traffic {
+            indicated: false,
+            waking: false,
+            ..x
+        }
+    } else {
+        x
     }
-    y
 }
 
 // Step c.
+#[tactic(auto, unfolding(crate::specs::TrafficSteps::in_repeat))]
 pub fn in_repeat(s: Setup, after: State, x: Traffic) -> Traffic
     ensures { result ≡ in_repeat s after x }
 {
-    let mut y = x;
-    if states::is_repeat(after) {
-        return y;
+    let left = Traffic {
+        fast: 0,
+        repeating: false,
+        ..x
+    };
+    match after {
+        State::RepeatMessage => x,
+        State::NormalOperation => Traffic {
+            remote: traffic::watching(s, x),
+            ..left
+        },
+        _ => Traffic {
+            message: 0,
+            remote: 0,
+            ..left
+        },
     }
-    y.fast = 0;
-    y.repeating = false;
-    if states::is_normal(after) {
-        y.remote = traffic::watching(s, x);
-        return y;
-    }
-    y.message = 0;
-    y.remote = 0;
-    y
 }
 
 // Step d.
+#[tactic(auto, unfolding(crate::specs::TrafficSteps::in_normal))]
 pub fn in_normal(m: Mode, x: Traffic) -> Traffic
     ensures { result ≡ in_normal m x }
 {
-    let mut y = x;
     if m.sending & (0 < x.remote) {
-        y.remote = ticks::down(x.remote);
-        y.indicated = x.remote <= 1;
-        return y;
+        Traffic {
+            remote: ticks::down(x.remote),
+            indicated: x.remote <= 1,
+            ..x
+        }
+    } else {
+        x
     }
-    y
 }

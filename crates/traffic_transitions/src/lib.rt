@@ -12,6 +12,7 @@ use states::{Mode, Traffic};
 use traffic::Setup;
 
 // The traffic after a rule, with the mode before and after it.
+#[tactic(auto, unfolding(crate::specs::TrafficTransitions::traffic_by))]
 pub fn traffic_by(
     rule: Rule,
     again: bool,
@@ -22,28 +23,18 @@ pub fn traffic_by(
 ) -> Traffic
     ensures { result ≡ traffic_by rule again s before after x }
 {
-    let state = after.state;
     match rule {
-        Rule::Keep => x,
-        Rule::NotHere => x,
         Rule::WakeUp => traffic::to_repeat(s, x),
         Rule::ActiveWakeUp => traffic::to_repeat_active(s, x),
-        Rule::Request => x,
         Rule::ToNormal => traffic::to_normal(s, x),
-        Rule::Release => x,
         Rule::ToReady => traffic::to_ready(x),
         Rule::Repeat => traffic::to_repeat_asked(s, x),
-        Rule::Disable => x,
         Rule::Enable => traffic::resumed(before, x),
-        Rule::Confirm => x,
-        Rule::Start => x,
-        Rule::HeardInRepeat => x,
         Rule::HeardInNormal => traffic::heard_in_normal(again, s, x),
         Rule::HeardInReady => traffic::heard_in_ready(again, s, x),
-        Rule::FilterOn => x,
-        Rule::TickInPrepare => x,
-        Rule::TickInRepeat => traffic_steps::in_repeat(s, state, x),
+        Rule::TickInRepeat => traffic_steps::in_repeat(s, after.state, x),
         Rule::TickInNormal => traffic_steps::in_normal(before, x),
-        Rule::TickInReady => traffic_steps::in_ready(state, x),
+        Rule::TickInReady => traffic_steps::in_ready(after.state, x),
+        _ => x,
     }
 }

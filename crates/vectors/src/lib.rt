@@ -4,25 +4,16 @@
 // timers (`timers`), and what a bit stands for (`pnc`).
 #![tactic(auto)]
 
-ghost use Rattle.std.specs.Prelude.{◌≡◌, ◌*◌, ◌^◌, ◌≤◌, ◌<◌, get_or};
+ghost use Rattle.std.specs.Prelude.{◌≡◌, ◌*◌, ◌^◌, ◌≤◌, ◌<◌};
 ghost use Rattle.vectors.specs.Vectors.{running_bit, vector_byte, vectors_differ};
-
-// Timer k of a table, 0 past its end.
-pub fn timer_at(timers: &[u16], k: usize) -> u16
-    ensures { result ≡ get_or timers.now k 0 }
-{
-    if k < timers.len() { timers[k] } else { 0 }
-}
 
 // Does some bit of the first table's vector differ from the second's? Past the second's end its bits are 0.
 pub fn vectors_differ(a: &[u16], b: &[u16]) -> bool
     ensures { result ≡ vectors_differ a.now b.now }
 {
     let mut found = false;
-    let mut i: usize = 0;
-    while i < a.len() {
-        found = found | ((a[i] == 0) ^ (timer_at(b, i) == 0));
-        i = i + 1;
+    for (i, t) in a.iter().enumerate() {
+        found |= (*t == 0) ^ (b.get(i).copied().unwrap_or(0) == 0);
     }
     found
 }
@@ -31,7 +22,7 @@ pub fn vectors_differ(a: &[u16], b: &[u16]) -> bool
 fn digit(t: u16) -> u8
     ensures { (result ≡ running_bit t) × (result ≤ 1) }
 {
-    if t == 0 { 0 } else { 1 }
+    u8::from(t != 0)
 }
 
 // The byte of the vector whose first bit is timer `at`.
@@ -39,12 +30,9 @@ pub fn vector_byte(timers: &[u16], at: usize) -> u8
     requires { at < 2 ^ 32 }
     ensures { result ≡ vector_byte timers.now at }
 {
-    let low = digit(timer_at(timers, at))
-        + 2 * digit(timer_at(timers, at + 1))
-        + 4 * digit(timer_at(timers, at + 2))
-        + 8 * digit(timer_at(timers, at + 3));
-    low + 16 * digit(timer_at(timers, at + 4))
-        + 32 * digit(timer_at(timers, at + 5))
-        + 64 * digit(timer_at(timers, at + 6))
-        + 128 * digit(timer_at(timers, at + 7))
+    let mut byte = 0u8;
+    for i in 0..8 {
+        byte += digit(timers.get(at + i).copied().unwrap_or(0)) << i;
+    }
+    byte
 }

@@ -7,6 +7,6 @@ unfolding begun
 returns c =
     let i = c.initialise-s.ensures in
     record {
-      run = rw (c.judged_phase.ensures, c.is_done-done.ensures, i);
-      text = rw (c.digit.ensures, c.pick8-letter.ensures, c.letter.ensures, c.is_done-done.ensures, i) at c.put_bare-p.ensures;
+      run = rw (c.judged_phase.ensures, c.is_ok-done.ensures.value, i);
+      text = rw (c.digit.ensures, c.pick-letter.ensures, c.letter.ensures, c.is_ok-done.ensures.value, i) at c.put_bare.ensures;
     }

@@ -1,15 +1,16 @@
 -- `config_lines::first_line` meets its contract. Assumes nothing.
-use Rattle.print.proofs.Wrote.{wrote_none}
+use Rattle.print.proofs.Wrote.{puts_none}
+use Rattle.config_line.specs.ConfigLine.{read_config}
+use Rattle.settings.proofs.Given.{some_given, none_given}
 use Rattle.config_lines.specs.ConfigLines.{first_line}
 use Rattle.config_lines.proofs.first_line.Goals as goal
 
-pub returns-then-s : goal.returns-then-s
+pub returns-in-Some : goal.returns-in-Some
 unfolding first_line
-returns-then-s c =
-    let s = c.read_config-s.ensures in
-    rw (← s, c.if-s.true) (record { run = rw (c.holding.ensures, c.counted.ensures); text = wrote_none _ _ })
+returns-in-Some c =
+    let g = some_given (read_config c.args.l.now) c.in-Some.ensures in
+    rw (g.0, ← g.1) (record { run = rw (c.holding.ensures, c.counted.ensures); text = puts_none _ })
 
-pub returns : goal.returns
+pub returns-in-None : goal.returns-in-None
 unfolding first_line
-returns c =
-    rw (← c.read_config-s.ensures, c.if-s.false) c.broken.ensures
+returns-in-None c = rw (none_given (read_config c.args.l.now) c.in-None.ensures) c.broken.ensures

@@ -1,13 +1,15 @@
 -- `config_lines::partial_line` meets its contract. Assumes nothing.
+use Rattle.pn_line.specs.PnLine.{read_partial}
+use Rattle.settings.proofs.Given.{some_given, none_given}
 use Rattle.config_lines.specs.ConfigLines.{partial_line}
 use Rattle.config_lines.proofs.partial_line.Goals as goal
 
-pub returns-then-s : goal.returns-then-s
+pub returns-in-Some : goal.returns-in-Some
 unfolding partial_line
-returns-then-s c =
-    rw (← c.read_partial-s.ensures, c.if-s.true) (rw c.counted.ensures at c.begin.ensures)
+returns-in-Some c =
+    let g = some_given (read_partial c.args.run.channel.own.config c.args.l.now) c.in-Some.ensures in
+    rw (g.0, ← g.1) (rw c.counted.ensures at c.begin.ensures)
 
-pub returns : goal.returns
+pub returns-in-None : goal.returns-in-None
 unfolding partial_line
-returns c =
-    rw (← c.read_partial-s.ensures, c.if-s.false) c.broken.ensures
+returns-in-None c = rw (none_given (read_partial c.args.run.channel.own.config c.args.l.now) c.in-None.ensures) c.broken.ensures

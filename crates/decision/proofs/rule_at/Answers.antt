@@ -1,4 +1,4 @@
--- `decision::rule_at` meets its contract: a key by itself, or one of a run. Assumes nothing.
+-- `decision::rule_at` meets its contract at a run of keys. Assumes nothing.
 use mathlib.Core.Path.{refl, sym}
 use native.Mathlib.Omega.{arith}
 use lib.ListN.{get_or-eq_default}
@@ -6,58 +6,6 @@ use Rattle.decision.specs.declared.Rule.TheVariants.{Keep, NotHere, WakeUp, Acti
 use Rattle.decision.specs.Decision.{rule_at, table}
 use Rattle.decision.proofs.Table.{run_at}
 use Rattle.decision.proofs.rule_at.Goals as goal
-
-pub returns-in-4 : goal.returns-in-4
-unfolding rule_at table
-returns-in-4 c = rw c.in-4.is
-
-pub returns-in-8 : goal.returns-in-8
-unfolding rule_at table
-returns-in-8 c = rw c.in-8.is
-
-pub returns-in-9 : goal.returns-in-9
-unfolding rule_at table
-returns-in-9 c = rw c.in-9.is
-
-pub returns-in-35 : goal.returns-in-35
-unfolding rule_at table
-returns-in-35 c = rw c.in-35.is
-
-pub returns-in-36 : goal.returns-in-36
-unfolding rule_at table
-returns-in-36 c = rw c.in-36.is
-
-pub returns-in-37 : goal.returns-in-37
-unfolding rule_at table
-returns-in-37 c = rw c.in-37.is
-
-pub returns-in-38 : goal.returns-in-38
-unfolding rule_at table
-returns-in-38 c = rw c.in-38.is
-
-pub returns-in-39 : goal.returns-in-39
-unfolding rule_at table
-returns-in-39 c = rw c.in-39.is
-
-pub returns-in-60 : goal.returns-in-60
-unfolding rule_at table
-returns-in-60 c = rw c.in-60.is
-
-pub returns-in-61 : goal.returns-in-61
-unfolding rule_at table
-returns-in-61 c = rw c.in-61.is
-
-pub returns-in-62 : goal.returns-in-62
-unfolding rule_at table
-returns-in-62 c = rw c.in-62.is
-
-pub returns-in-63 : goal.returns-in-63
-unfolding rule_at table
-returns-in-63 c = rw c.in-63.is
-
-pub returns-in-64 : goal.returns-in-64
-unfolding rule_at table
-returns-in-64 c = rw c.in-64.is
 
 pub returns-in-0-to-1 : goal.returns-in-0-to-1
 unfolding rule_at table

@@ -1,6 +1,11 @@
 -- `dispatch_in_place::carry_out_whole` meets its contract. Assumes nothing.
-use Rattle.dispatch_in_place.proofs.Kept.{put_together}
+use mathlib.Core.Path.{ap}
+use Rattle.channel.specs.Channel.{Ticked}
+use Rattle.channel.proofs.Carried.{keeps}
+use Rattle.dispatch.specs.Calls.{carried_out_by}
 use Rattle.dispatch_in_place.proofs.carry_out_whole.Goals as goal
 
-pub returns : goal.returns
-returns c = rw c.effect_of.ensures (put_together _ _ _ (rw c.channel_of-ch.ensures at c.carry_out-r.ensures))
+pub invariant_of-k : goal.invariant_of-k
+unfolding carried_out_by
+invariant_of-k c =
+    rw (ap (λ (t : Ticked). t.reply) c.carry_out-r.ensures, (keeps c.k.inside.channel _).config, (keeps c.k.inside.channel _).ticks) c.k.invariant

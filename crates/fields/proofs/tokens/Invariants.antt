@@ -1,15 +1,11 @@
--- What the loop of `fields::tokens` keeps, and what falls in each turn. Assumes nothing.
+-- What the loop of `fields::tokens` keeps. Assumes nothing.
 use mathlib.Core.Path.{◌≡◌}
 use mathlib.Core.List.{map}
-use Prim.Native.Nat.{◌-◌, ◌+◌, ◌≤◌}
-use lib.ListN.{length}
-use Rattle.fields.specs.Fields.{fields_from}
+use lib.ListN.{length, drop}
+use Rattle.fields.specs.Fields.{fields_of}
 use Rattle.fields.specs.Numbers.{token_of, tokens_of}
 use Rattle.text.proofs.Filling.{Filling}
 use Rattle.fields.proofs.tokens.Given as goal
 
-abbrev pub invariant-loop-at : goal.invariant-loop-at
-invariant-loop-at l = Filling l.initial.out (tokens_of l.line) l.out l.k (map token_of (fields_from l.line l.at)) × (l.k ≤ l.at) × (length l.out ≡ length l.initial.out) × (l.at ≤ length l.line + 1)
-
-abbrev pub decreases-loop-at : goal.decreases-loop-at
-decreases-loop-at l = length l.line + 1 - l.at
+abbrev pub invariant-loop-field : goal.invariant-loop-field
+invariant-loop-field l = Filling l.initial.out (tokens_of l.line) l.out l.k (map token_of (drop l.k (fields_of l.line))) × (l.k ≡ length l.yielded) × (length l.out ≡ length l.initial.out)

@@ -5,4 +5,4 @@ use Rattle.frames.proofs.load_sent.Goals as goal
 
 pub returns : goal.returns
 unfolding sent_loaded
-returns c = rw (c.differ.ensures, c.load.ensures.0, c.part.ensures, c.count_down.ensures.0) (refl, refl)
+returns c = rw (c.vectors_differ.ensures, c.load_where.ensures.0, c.part.ensures, c.count_down.ensures.0) (refl, refl)

@@ -8,7 +8,7 @@ pub returns-then-informs : goal.returns-then-informs
 unfolding loaded_by
 returns-then-informs c =
     let e = sym (rw c.byte_at.ensures at c.informs.ensures) ∙ c.if-informs.true in
-    rw (c.load.ensures.0, c.load.ensures.1, c.part-pn.ensures, e)
+    rw (c.load_where.ensures.0, c.load_where.ensures.1, c.part-pn.ensures, e)
     (refl, refl)
 
 pub returns : goal.returns

@@ -1,16 +1,21 @@
 -- `names::pack` meets its contract. Assumes nothing.
-use mathlib.Core.Path.{◌∙◌}
+use native.Mathlib.Omega.{arith}
 use Rattle.names.proofs.Packing.{packed_one, packed_two, packed_three, packed_else}
 use Rattle.names.proofs.pack.Goals as goal
 
-pub returns-then-f-eq1 : goal.returns-then-f-eq1
-returns-then-f-eq1 c = c.pack_one.ensures ∙ packed_one _ c.if-f-eq1.true
+pub returns-in-len1 : goal.returns-in-len1
+returns-in-len1 c = rw c.from.ensures (packed_one _ (omega arith))
 
-pub returns-then-f-eq2 : goal.returns-then-f-eq2
-returns-then-f-eq2 c = c.pack_two.ensures ∙ packed_two _ c.if-f-eq2.true
+pub returns-in-len2 : goal.returns-in-len2
+returns-in-len2 c = rw (c.from-in-len2.ensures, c.from-in-len2-2.ensures) (packed_two _ (omega arith))
 
-pub returns-then-f-eq3 : goal.returns-then-f-eq3
-returns-then-f-eq3 c = c.pack_three.ensures ∙ packed_three _ c.if-f-eq3.true
+pub returns-in-len3 : goal.returns-in-len3
+returns-in-len3 c = rw (c.from-in-len3.ensures, c.from-in-len3-2.ensures, c.from-in-len3-3.ensures) (packed_three _ (omega arith))
 
-pub returns : goal.returns
-returns c = packed_else _ c.if-f-eq1.false c.if-f-eq2.false c.if-f-eq3.false
+-- no byte
+pub returns-in_default : goal.returns-in_default
+returns-in_default c = packed_else _ (λ e. omega arith) (λ e. omega arith) (λ e. omega arith)
+
+-- more than three
+pub returns-in_default-2 : goal.returns-in_default-2
+returns-in_default-2 c = packed_else _ (λ e. omega arith) (λ e. omega arith) (λ e. omega arith)

@@ -1,17 +1,15 @@
 -- `pn_limits::filled_mask` meets its contract. Assumes nothing.
-use Rattle.pn_limits.specs.Mask.{filled_mask}
+use mathlib.Core.Path.{◌∙◌}
+use native.Mathlib.Omega.{arith}
+use Rattle.bits.proofs.Lists.{upto_more, upto_all}
+use Rattle.pn_limits.proofs.Mask.{filled_is}
 use Rattle.pn_limits.proofs.filled_mask.Goals as goal
 
+pub loop-k-preserved : goal.loop-k-preserved
+loop-k-preserved c = let l = c.loop-k in upto_more _ _ l.byte-items l.k (omega arith) l.invariant c.pick.ensures
+
 pub returns : goal.returns
-unfolding filled_mask
 returns c =
-    rw (
-      c.byte_within-8.ensures,
-      c.byte_within-7.ensures,
-      c.byte_within-6.ensures,
-      c.byte_within-5.ensures,
-      c.byte_within-4.ensures,
-      c.byte_within-3.ensures,
-      c.byte_within-2.ensures,
-      c.byte_within.ensures,
-    )
+    let l = c.loop-k in
+    let a = c.args in
+    upto_all _ _ l.byte-items l.k (omega arith) l.invariant ∙ filled_is a.n a.mask.now (omega arith)

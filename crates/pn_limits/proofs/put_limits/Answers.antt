@@ -6,5 +6,5 @@ use Rattle.pn_limits.proofs.put_limits.Goals as goal
 pub returns : goal.returns
 returns c =
     let a = c.args in
-    rw (c.put_limits_by.ensures.limits_after, c.filled_mask-filled.ensures)
-    (limits_filled a.c.pn.length a.t.reset a.c.pn.mask a.limits.now (omega (arith, c.put_limits_by.ensures.limits_len)))
+    rw (c.put_where.ensures, c.filled_mask-filled.ensures)
+    (limits_filled a.c.pn.length a.t.reset a.c.pn.mask a.limits.now (omega arith))

@@ -1,45 +1,52 @@
 -- `reception::rx_indication_in_place` meets its contract. Assumes nothing.
 use mathlib.Core.Path.{◌≡◌, sym, ◌∙◌}
-use Rattle.decision.specs.Decision.{rx_indication}
-use Rattle.refusals.specs.Refusals.{refusal}
-use Rattle.channel.specs.Channel.{answer_of, refused, sound}
-use Rattle.channel.specs.Parts.{channel_of, unmoved}
-use Rattle.channel.proofs.Carried.{carried, dropped_carried, heard_carried, not_carried}
+use mathlib.Core.Bool.{true, false}
+use Rattle.decision.specs.Decision.{Call, rx_indication}
+use Rattle.refusals.specs.Refusals.{is_done, refusal}
+use Rattle.heard.specs.Heard.{accepted}
+use Rattle.channel.specs.declared.state.Channel.{Channel}
+use Rattle.channel.specs.Channel.{again_for, answer_of, carried_out, eira_after, era_after, heard_by, mode_after, notes_after, own_after, refused, replied, requests_after, rule_for, sends, traffic_after, traffic_moved, user_after}
+use Rattle.channel.proofs.Carried.{dropped_carried}
+use Rattle.channel.specs.Moved.{moved_by}
 use Rattle.reception.proofs.rx_indication_in_place.Goals as goal
 
-pub returns-then-accepted : goal.returns-then-accepted
-unfolding answer_of refusal sound
-returns-then-accepted c user requests =
-    let a = c.args in
-    let ch = channel_of a.c a.t a.m a.x user requests a.era.now a.eira.now in
-    let pdu = a.pdu.now in
-    let answer : c.judge-a.result ≡ answer_of ch (rx_indication pdu) = rw (c.judge-a.ensures, c.is_not_here.ensures, c.rule_of-rule.ensures, c.requires) in
-    carried ch (rx_indication pdu) answer c.is_done.ensures c.if-is_done.true
-    (rw (
-      c.moved_to.ensures,
-      c.load_heard-ei.ensures.1,
+pub returns-then-is_err : goal.returns-then-is_err
+unfolding answer_of refusal replied refused
+returns-then-is_err c =
+    let ch : Channel = c.args.k.now in
+    let call : Call = rx_indication c.args.pdu.now in
+    let answer : c.judge-answer.result ≡ answer_of ch call = rw (c.judge-answer.ensures, c.is_not_here.ensures, c.rule_of-rule.ensures, c.is_sound-sound.ensures, c.k.view_is) in
+    let refused : is_done (answer_of ch call) ≡ false = rw (← answer, c.is_err.ensures.negation, c.if-is_err.true) in
+    rw (refused, c.unmoved.ensures, answer)
+
+pub returns-then-not-accepted : goal.returns-then-not-accepted
+unfolding answer_of refusal replied
+returns-then-not-accepted c =
+    let ch : Channel = c.k.inside.channel in
+    let pdu = c.args.pdu.now in
+    let call : Call = rx_indication pdu in
+    let answer : c.judge-answer.result ≡ answer_of ch call = rw (c.judge-answer.ensures, c.is_not_here.ensures, c.rule_of-rule.ensures, c.is_sound-sound.ensures, ← c.k.view_is) in
+    let done : is_done (answer_of ch call) ≡ true = rw (← answer, c.is_err.ensures.negation, c.if-is_err.false) in
+    rw (← c.k.view_is, done, c.move_by.ensures.moves) (dropped_carried ch pdu (sym c.accepted.ensures ∙ c.if-not-accepted.true))
+
+pub returns : goal.returns
+unfolding answer_of refusal replied carried_out own_after notes_after mode_after traffic_after traffic_moved user_after requests_after era_after eira_after heard_by sends rule_for again_for moved_by
+returns c =
+    let ch : Channel = c.k.inside.channel in
+    let pdu = c.args.pdu.now in
+    let call : Call = rx_indication pdu in
+    let answer : c.judge-answer.result ≡ answer_of ch call = rw (c.judge-answer.ensures, c.is_not_here.ensures, c.rule_of-rule.ensures, c.is_sound-sound.ensures, ← c.k.view_is) in
+    let done : is_done (answer_of ch call) ≡ true = rw (← answer, c.is_err.ensures.negation, c.if-is_err.false) in
+    let heard : accepted ch.own.config ch.own.mode.filter pdu ≡ true = sym c.accepted.ensures ∙ c.if-not-accepted.false in
+    rw (
+      ← c.k.view_is,
+      done,
+      heard,
+      c.move_by-2.ensures.moves,
       c.load_heard-ei.ensures.0,
-      c.load_heard-er.ensures.1,
+      c.load_heard-ei.ensures.1,
       c.load_heard-er.ensures.0,
+      c.load_heard-er.ensures.1,
       c.asks_repeat-again.ensures,
       c.rule_of-rule.ensures,
     )
-    (sym (heard_carried ch pdu (sym c.accepted.ensures ∙ c.if-accepted.true))))
-
-pub returns-then-is_done : goal.returns-then-is_done
-unfolding answer_of refusal sound
-returns-then-is_done c user requests =
-    let a = c.args in
-    let ch = channel_of a.c a.t a.m a.x user requests a.era.now a.eira.now in
-    let pdu = a.pdu.now in
-    let answer : c.judge-a.result ≡ answer_of ch (rx_indication pdu) = rw (c.judge-a.ensures, c.is_not_here.ensures, c.rule_of-rule.ensures, c.requires) in
-    carried ch (rx_indication pdu) answer c.is_done.ensures c.if-is_done.true
-    (rw c.moved_to-then-is_done.ensures (sym (dropped_carried ch pdu (sym c.accepted.ensures ∙ c.if-accepted.false))))
-
-pub returns : goal.returns
-unfolding answer_of refusal sound refused unmoved
-returns c user requests =
-    let a = c.args in
-    let ch = channel_of a.c a.t a.m a.x user requests a.era.now a.eira.now in
-    let answer : c.judge-a.result ≡ answer_of ch (rx_indication a.pdu.now) = rw (c.judge-a.ensures, c.is_not_here.ensures, c.rule_of-rule.ensures, c.requires) in
-    not_carried ch (rx_indication a.pdu.now) answer c.is_done.ensures c.if-is_done.false (rw c.unmoved.ensures)

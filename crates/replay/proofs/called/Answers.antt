@@ -9,15 +9,12 @@ use Rattle.replay.proofs.called.Goals as goal
 pub returns : goal.returns
 unfolding called replied_with reply_text
 returns c =
-    rw (← c.carry_out_in_place-e.ensures) (record {
+    rw (← c.carry_out_in_place-told.ensures) (record {
       run = refl;
-      text = rw (c.letter.ensures, c.digit.ensures, c.counted.ensures, c.sent_bytes-sent.ensures) at c.put_line-p.ensures;
+      text = rw (c.letter.ensures, c.digit.ensures, c.counted.ensures, c.sent_bytes.ensures, c.k.view_is) at c.put.ensures;
     })
 
-pub carry_out_in_place-e-requires : goal.carry_out_in_place-e-requires
-carry_out_in_place-e-requires c = c.requires.0
-
-pub put_line-p-requires : goal.put_line-p-requires
-put_line-p-requires c =
-    let r = c.carry_out_in_place-e in
-    omega (arith, c.requires.1, ap length c.sent_bytes-sent.ensures, sent_le r.result.sent c.args.c.layout.length r.new.frame)
+pub put-requires : goal.put-requires
+put-requires c =
+    let r = c.carry_out_in_place-told in
+    omega (arith, c.requires, ap length c.sent_bytes.ensures, sent_le r.result.sent c.k.inside.channel.own.config.layout.length r.new.frame)

@@ -12,29 +12,29 @@ answered : (ch : Channel) (ok here : Bool) → ok ≡ sound ch → here ≡ is_n
 unfolding answer_of refusal
 answered ch ok here e f = rw (e, f)
 
-pub returns-then-is_done : goal.returns-then-is_done
-unfolding status_of shown sound
-returns-then-is_done c =
+pub returns-then-is_ok : goal.returns-then-is_ok
+unfolding status_of shown
+returns-then-is_ok c =
     let answer : c.judge-a.result ≡ answer_of c.args.ch status =
     c.judge-a.ensures
-    ∙ answered c.args.ch c.sound-ok.result c.is_not_here-elsewhere.result c.sound-ok.ensures
+    ∙ answered c.args.ch c.is_sound-ok.result c.is_not_here-elsewhere.result c.is_sound-ok.ensures
     (rw (c.is_not_here-elsewhere.ensures, c.rule_of.ensures)) in
     rw (
       c.state_number.ensures,
       c.lowest_of-lowest.ensures,
-      c.count_of-count.ensures,
+      c.count_ones-count.ensures,
       c.vector_of-eira.ensures,
       c.vector_of-era.ensures,
       ← answer,
-      ← c.is_done.ensures,
-      c.if-is_done.true,
+      ← c.is_ok.ensures.value,
+      c.if-is_ok.true,
     )
 
 pub returns : goal.returns
-unfolding status_of sound
+unfolding status_of
 returns c =
     let answer : c.judge-a.result ≡ answer_of c.args.ch status =
     c.judge-a.ensures
-    ∙ answered c.args.ch c.sound-ok.result c.is_not_here-elsewhere.result c.sound-ok.ensures
+    ∙ answered c.args.ch c.is_sound-ok.result c.is_not_here-elsewhere.result c.is_sound-ok.ensures
     (rw (c.is_not_here-elsewhere.ensures, c.rule_of.ensures)) in
-    rw (c.unshown.ensures, ← answer, ← c.is_done.ensures, c.if-is_done.false)
+    rw (c.unshown.ensures, ← answer, ← c.is_ok.ensures.value, c.if-is_ok.false)

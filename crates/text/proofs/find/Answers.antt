@@ -1,16 +1,9 @@
--- `text::find` meets its contract. The loop's invariant: what is found from the start on is what is found from `i` on. Assumes nothing.
-use mathlib.Core.Path.{refl, sym, ◌∙◌}
-use Rattle.text.proofs.Lines.{until_end, until_hit, until_miss}
+-- `text::find` meets its contract. Assumes nothing.
+use Rattle.text.proofs.Lines.{until_past, until_rest}
 use Rattle.text.proofs.find.Goals as goal
 
-pub returns-then-s-i : goal.returns-then-s-i
-returns-then-s-i c = sym (c.loop-i.invariant ∙ until_hit _ _ _ c.loop-i-test.true c.if-s-i.true)
-
-pub loop-i-preserved : goal.loop-i-preserved
-loop-i-preserved c = c.loop-i.invariant ∙ until_miss _ _ _ c.loop-i-test.true c.if-s-i.false
+pub returns-then-s-at : goal.returns-then-s-at
+returns-then-s-at c = until_past _ _ _ c.if-s-at.true
 
 pub returns : goal.returns
-returns c = sym (c.loop-i.invariant ∙ until_end _ _ _ c.loop-i-test.false)
-
-pub loop-i-init : goal.loop-i-init
-loop-i-init c = refl
+returns c = until_rest c.args.b c.args.s.now c.args.at c.first.ensures c.unwrap_or.ensures

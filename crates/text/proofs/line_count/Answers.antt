@@ -1,41 +1,33 @@
 -- `text::line_count` meets its contract. The loop's invariant: the lines of the text are those counted and those from `at` on.
 -- Assumes nothing.
-use mathlib.Core.Path.{ap}
-use Prim.Native.Nat.{◌≤◌}
-use native.Mathlib.Omega.{arith}
-use lib.ListN.{length}
-use Rattle.text.specs.Lines.{line_feed}
-use Rattle.text.proofs.Lines.{found_le, lines_at, lines_none}
+use Rattle.std.proofs.Common.{ap, sym, ◌≡◌, ◌+◌, ◌<◌, ◌≤◌, arith, length, drop}
+use Rattle.text.specs.Lines.{line_feed, until}
+use Rattle.text.proofs.Lines.{lines_at, lines_none, span_end, span_line}
 use Rattle.text.proofs.line_count.Goals as goal
 
--- a line that is found ends within the text
-ends : (c : goal.After-line_end-at) → (c.loop-at.at ≤ c.line_end-at.result) × (c.line_end-at.result ≤ length c.args.s.now)
-ends c =
-    let s = c.args.s.now in
-    let h = c.loop-at-test.true in
-    found_le line_feed s c.loop-at.at (omega (arith, h)) c.line_end-at.ensures
+-- the places of a line that is found
+found : (c : goal.In-Some) → let s = c.args.s.now in
+    (c.loop-end.at < length s) × (c.in-Some.end ≡ c.loop-end.at + until line_feed (drop c.loop-end.at s)) × (c.in-Some.end ≤ length s)
+found c = let f = span_line c.args.s.now c.loop-end.at (sym c.in-Some.ensures) in (f.0, f.2, f.3)
 
-pub loop-at-preserved : goal.loop-at-preserved
-loop-at-preserved c =
-    let b = c.loop-at in
-    let s = c.args.s.now in
-    let e = ap length (lines_at s b.at c.line_end-at.result c.loop-at-test.true c.line_end-at.ensures) in
-    (omega (arith, b.invariant.0, e), omega (arith, b.invariant.1, (ends c).0))
+pub loop-end-preserved : goal.loop-end-preserved
+loop-end-preserved c =
+    let b = c.loop-end in
+    let f = found c in
+    let e = ap length (lines_at c.args.s.now b.at c.in-Some.end f.0 f.1) in
+    (omega (arith, b.invariant.0, e), omega (arith, b.invariant.1, f.1))
 
 pub returns : goal.returns
 returns c =
-    let b = c.loop-at in
+    let b = c.loop-end in
     let s = c.args.s.now in
-    omega (arith, b.invariant.0, ap length (lines_none s b.at c.loop-at-test.false))
-
-pub loop-at-init : goal.loop-at-init
-loop-at-init c = (omega arith, omega arith)
+    omega (arith, b.invariant.0, ap length (lines_none s b.at (span_end s b.at (sym c.in_default.ensures))))
 
 pub overflow_add-at : goal.overflow_add-at
-overflow_add-at c = omega (arith, (ends c).1)
+overflow_add-at c = omega (arith, (found c).2)
 
 pub overflow_add-n : goal.overflow_add-n
-overflow_add-n c = omega (arith, c.loop-at.invariant.1, c.loop-at-test.true)
+overflow_add-n c = omega (arith, c.loop-end.invariant.1, (found c).0)
 
-pub loop-at-smaller : goal.loop-at-smaller
-loop-at-smaller c = omega (arith, (ends c).0, (ends c).1)
+pub loop-end-smaller : goal.loop-end-smaller
+loop-end-smaller c = omega (arith, (found c).0, (found c).1)

@@ -5,7 +5,7 @@ use Rattle.text.proofs.span_at.Goals as goal
 
 pub returns-then-at-s : goal.returns-then-at-s
 unfolding span_at
-returns-then-at-s c = rw (lt-ltb _ _ c.if-at-s.true, c.line_end-end.ensures)
+returns-then-at-s c = rw (lt-ltb _ _ c.if-at-s.true, c.line_end.ensures)
 
 pub returns-else-at-s : goal.returns-else-at-s
 unfolding span_at

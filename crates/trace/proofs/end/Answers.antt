@@ -4,4 +4,4 @@ use Rattle.trace.proofs.end.Goals as goal
 
 pub returns : goal.returns
 unfolding ended
-returns c = rw c.part.ensures at c.whole_from.ensures
+returns c = rw c.part.ensures at c.put_whole.ensures

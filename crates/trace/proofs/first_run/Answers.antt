@@ -4,4 +4,4 @@ use Rattle.trace.proofs.first_run.Goals as goal
 
 pub returns : goal.returns
 unfolding first_run
-returns c = rw (c.holding.ensures, c.read_config-s.ensures)
+returns c = rw (c.holding.ensures, c.blank.ensures)

@@ -1,16 +1,16 @@
-use mathlib.Core.Path.{◌≡◌}
-use Prim.Native.Nat.{◌-◌, ◌+◌, ◌*◌, ◌≤◌}
+-- What the loop of `trace::lines` keeps, and what falls in each turn. Assumes nothing.
+use Prim.Native.Nat.{◌-◌, ◌+◌, ◌*◌}
 use lib.ListN.{length, drop}
+use Rattle.print.specs.Print.{HasRoom}
 use Rattle.text.specs.Lines.{lines_of}
 use Rattle.trace_line.specs.TraceLine.{room}
 use Rattle.call_lines.proofs.Going.{Going}
 use Rattle.trace.proofs.lines.Given as goal
 
-abbrev pub invariant-loop-out : goal.invariant-loop-out
-invariant-loop-out l =
-    Going l.initial.now (lines_of l.text) l.initial.out 0 l.out l.put l.now (lines_of (drop l.at l.text))
-    × (l.put + room * (length l.text - l.at) ≤ length l.initial.out)
-    × (length l.out ≡ length l.initial.out)
+abbrev pub invariant-loop-w : goal.invariant-loop-w
+invariant-loop-w l =
+    Going l.initial.now (lines_of l.text) l.initial.w l.w l.now (lines_of (drop l.at l.text))
+    × HasRoom l.w (room * (length l.text - l.at))
 
-abbrev pub decreases-loop-out : goal.decreases-loop-out
-decreases-loop-out l = length l.text + 1 - l.at
+abbrev pub decreases-loop-w : goal.decreases-loop-w
+decreases-loop-w l = length l.text + 1 - l.at

@@ -2,4 +2,4 @@
 use Rattle.trace.proofs.whole.Goals as goal
 
 pub returns : goal.returns
-returns c = rw c.first_run.ensures at c.whole_from.ensures
+returns c = rw c.first_run.ensures at c.put_whole.ensures

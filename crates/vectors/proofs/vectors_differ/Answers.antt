@@ -1,8 +1,8 @@
--- `vectors::vectors_differ` meets its contract: `found` says whether one of the first `i` bits differs. Assumes nothing.
-use mathlib.Core.Path.{ap, refl}
+-- `vectors::vectors_differ` meets its contract. Assumes nothing.
+use mathlib.Core.Path.{◌≡◌, ap}
 use mathlib.Core.Bool.{Bool, ◌||◌}
-use native.Mathlib.Omega.{arith}
 use borrow.Author.Rules.{rules}
+use lib.ListN.{get_or}
 use Rattle.choice.proofs.Tests.{xor_is}
 use Rattle.vectors.specs.Vectors.{vectors_differ}
 use Rattle.bits.proofs.Lists.{any_more, any_done}
@@ -11,11 +11,9 @@ use Rattle.vectors.proofs.vectors_differ.Goals as goal
 pub loop-i-preserved : goal.loop-i-preserved
 loop-i-preserved c =
     let l = c.loop-i in
-    (omega arith, any_more _ l.i l.invariant.1 (rw c.timer_at.ensures (ap (λ (t : Bool). l.found || t) (xor_is _ _))))
+    let e : c.unwrap_or.result ≡ get_or c.args.b.now l.i 0 = search rules in
+    any_more _ l.i l.invariant (rw e (ap (λ (t : Bool). l.found || t) (xor_is _ _)))
 
 pub returns : goal.returns
 unfolding vectors_differ
-returns c = let l = c.loop-i in any_done _ l.invariant.0 c.loop-i-test.false l.invariant.1
-
-pub loop-i-init : goal.loop-i-init
-loop-i-init c = (search rules, refl)
+returns c = let l = c.loop-i in any_done _ l.auto.i-end c.loop-i-test.false l.invariant
