@@ -9,6 +9,7 @@ ghost use Rattle.vectors.specs.Vectors.{vectors_differ};
 ghost use Rattle.frames.specs.Frames.{cbv_sent, framed, sent_loaded};
 
 use config::{Config, PDU_MOST, PNC_MOST};
+use layout::PduFields;
 use states::Traffic;
 
 fn cbv_sent(on: bool, x: Traffic) -> u8
@@ -36,14 +37,13 @@ pub fn send<'a>(
 {
     let pn = slices::part(requests, 0, c.pn.length as usize);
     let data = slices::part(user, 0, config::user_length(c) as usize);
-    layout::write_fields(
-        c,
-        (c.node % 256) as u8,
-        cbv_sent(c.pn.on, x),
+    let fields = PduFields {
+        sni: (c.node % 256) as u8,
+        cbv: cbv_sent(c.pn.on, x),
         pn,
-        data,
-        frame,
-    );
+        user: data,
+    };
+    fields.write(c, frame);
 }
 
 // The timers that a sent frame loads, after a tick has counted them down. Answers whether the vector changed by both.

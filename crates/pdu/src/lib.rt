@@ -6,26 +6,27 @@
 #![tactic(auto)]
 
 ghost use Rattle.std.specs.Prelude.{◌≡◌, []};
-ghost use Rattle.layout.specs.Fields.{fields};
+ghost use Rattle.layout.specs.Fields.{lent};
 ghost use Rattle.pdu.specs.Pdu.{composed, composing, header_reading, reading, taken_by};
 
 use answers::{Answer, Refusal};
 use config::{Config, Layout};
+use layout::PduFields;
 
 // ---- composing
 
 // A PDU composed from its fields, in the first bytes of the frame.
 #[tactic(auto, unfolding(crate::specs::Pdu::composing))]
-pub fn compose(c: Config, sni: u8, cbv: u8, pn: &[u8], user: &[u8], frame: &mut [u8]) -> Answer
-    ensures { composed result frame.new ≡ composing c (fields sni cbv pn.now user.now) frame.old }
+pub fn compose(c: Config, fields: PduFields, frame: &mut [u8]) -> Answer
+    ensures { composed result frame.new ≡ composing c (lent fields.entry) frame.old }
 {
     rules::first_broken_rule(c)?;
-    let fits = layout::of_lengths(c, pn.len(), user.len())
+    let fits = layout::of_lengths(c, fields.pn.len(), fields.user.len())
         & (c.layout.length <= frame.len() as u64);
     if !fits {
         return Err(Refusal::Length);
     }
-    layout::write_fields(c, sni, cbv, pn, user, frame);
+    fields.write(c, frame);
     Ok(())
 }
 

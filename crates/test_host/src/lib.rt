@@ -6,6 +6,7 @@
 #![tactic(auto)]
 
 use config::{Config, Layout, PDU_MOST, Partial, Times};
+use layout::PduFields;
 use pdu::Header;
 use pnc::{PnRange, PncNumber, VectorBit};
 
@@ -99,7 +100,13 @@ pub fn test_compose(
     frame: &mut [u8],
 ) -> Composed {
     let c = config_of(numbers, mask);
-    let a = pdu::compose(c, (sni % 256) as u8, (cbv % 256) as u8, pn, user, frame);
+    let fields = PduFields {
+        sni: (sni % 256) as u8,
+        cbv: (cbv % 256) as u8,
+        pn,
+        user,
+    };
+    let a = pdu::compose(c, fields, frame);
     Composed {
         answer: answers::number(a) as u32,
         rule: answers::rule(a) as u32,

@@ -92,18 +92,24 @@ fn passes(text: &[u8; FILE_MOST], n: usize, stored: &[u8], out: &mut [u8; OUTPUT
     slices::part(out, 0, s.at) == stored
 }
 
+// Room for a trace: its text, its stored output, and what it prints.
+struct Buffers {
+    text: [u8; FILE_MOST],
+    stored: [u8; FILE_MOST],
+    out: [u8; OUTPUT],
+}
+
 // Does the trace of a name print what is stored?
-fn agrees<R: Files>(
-    rt: &R,
-    name: &[u8],
-    text: &mut [u8; FILE_MOST],
-    stored: &mut [u8; FILE_MOST],
-    out: &mut [u8; OUTPUT],
-) -> bool {
-    let t = read_named(rt, name, b".trace", text);
-    let s = read_named(rt, name, b".out", stored);
+fn agrees<R: Files>(rt: &R, name: &[u8], buffers: &mut Buffers) -> bool {
+    let t = read_named(rt, name, b".trace", &mut buffers.text);
+    let s = read_named(rt, name, b".out", &mut buffers.stored);
     match (t, s) {
-        (Some(t), Some(s)) => passes(text, t, slices::part(stored, 0, s), out),
+        (Some(t), Some(s)) => passes(
+            &buffers.text,
+            t,
+            slices::part(&buffers.stored, 0, s),
+            &mut buffers.out,
+        ),
         _ => false,
     }
 }
@@ -115,16 +121,10 @@ fn tell<R: Print>(rt: &R, name: &[u8]) {
 }
 
 // 1 for a trace that prints what is stored; 0, and its name is printed, for one that differs.
-fn judged<R: Files + Print>(
-    rt: &R,
-    name: &[u8],
-    text: &mut [u8; FILE_MOST],
-    stored: &mut [u8; FILE_MOST],
-    out: &mut [u8; OUTPUT],
-) -> u64
+fn judged<R: Files + Print>(rt: &R, name: &[u8], buffers: &mut Buffers) -> u64
     ensures { result ≤ 1 }
 {
-    if agrees(rt, name, text, stored, out) {
+    if agrees(rt, name, buffers) {
         return 1;
     }
     tell(rt, name);
@@ -132,49 +132,34 @@ fn judged<R: Files + Print>(
 }
 
 // How many traces of a list print what is stored.
-fn count<R: Files + Print>(
-    rt: &R,
-    names: &[u8],
-    text: &mut [u8; FILE_MOST],
-    stored: &mut [u8; FILE_MOST],
-    out: &mut [u8; OUTPUT],
-) -> u64 {
+#[tactic(auto, using(text::proofs::Lines::span_line))]
+fn count<R: Files + Print>(rt: &R, names: &[u8], buffers: &mut Buffers) -> u64 {
     let mut good: u64 = 0;
     let mut at = 0;
     // A place is carried along: `split` of a slice gives an empty line behind a last line feed.
-    loop {
-        match text::line_at(names, at) {
-            Some((first, end)) => {
-                good += judged(rt, &names[first..end], text, stored, out);
-                at = end + 1;
-            }
-            None => {
-                return good;
-            }
-        }
+    while let Some((first, end)) = text::line_at(names, at) {
+        good += judged(rt, &names[first..end], buffers);
+        at = end + 1;
     }
+    good
 }
 
-fn run<R: Files + Print>(
-    rt: &R,
-    names: &mut [u8; NAMES_MOST],
-    text: &mut [u8; FILE_MOST],
-    stored: &mut [u8; FILE_MOST],
-    out: &mut [u8; OUTPUT],
-) {
+fn run<R: Files + Print>(rt: &R, names: &mut [u8; NAMES_MOST], buffers: &mut Buffers) {
     let list = b"names";
     let Some(n) = read_file(rt, list, names) else {
         tell(rt, list);
         return;
     };
-    let good = count(rt, slices::part(names, 0, n), text, stored, out);
+    let good = count(rt, slices::part(names, 0, n), buffers);
     let _ = println!(rt; "{good} traces print what is stored");
 }
 
 fn main(rt: HostRuntime) {
     let mut names = [0u8; NAMES_MOST];
-    let mut text = [0u8; FILE_MOST];
-    let mut stored = [0u8; FILE_MOST];
-    let mut out = [0u8; OUTPUT];
-    run(&rt, &mut names, &mut text, &mut stored, &mut out);
+    let mut buffers = Buffers {
+        text: [0; FILE_MOST],
+        stored: [0; FILE_MOST],
+        out: [0; OUTPUT],
+    };
+    run(&rt, &mut names, &mut buffers);
 }

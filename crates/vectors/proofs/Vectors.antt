@@ -2,10 +2,10 @@
 use mathlib.Core.Path.{◌≡◌, refl}
 use mathlib.Core.Bool.{Bool, true, false, xor}
 use mathlib.Core.List.{List}
-use Prim.Native.Nat.{ℕ, zero, suc}
+use Prim.Native.Nat.{ℕ}
 use lib.Dec.{eqb}
 use lib.ListN.{length, get_or}
-use Rattle.bits.specs.Lists.{any_below}
+use Rattle.bits.proofs.Lists.{any_none}
 use Rattle.vectors.specs.Vectors.{vectors_differ}
 
 -- a bit does not differ from itself
@@ -14,11 +14,7 @@ unfolding xor
 xor_self true = refl
 xor_self false = refl
 
-none_below : (p : ℕ → Bool) (n : ℕ) → ((k : ℕ) → p k ≡ false) → any_below p n ≡ false
-none_below p zero h = refl
-none_below p (suc n) h = rw (none_below p n h, h n)
-
 -- a vector does not differ from itself
 pub differs_not : (ts : List ℕ) → vectors_differ ts ts ≡ false
 unfolding vectors_differ
-differs_not ts = none_below (λ k. xor (eqb (get_or ts k 0) 0) (eqb (get_or ts k 0) 0)) (length ts) (λ k. xor_self (eqb (get_or ts k 0) 0))
+differs_not ts = any_none (λ k. xor (eqb (get_or ts k 0) 0) (eqb (get_or ts k 0) 0)) (length ts) (λ k. xor_self (eqb (get_or ts k 0) 0))

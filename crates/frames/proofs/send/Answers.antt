@@ -4,4 +4,4 @@ use Rattle.frames.proofs.send.Goals as goal
 
 pub returns : goal.returns
 unfolding framed
-returns c = rw (c.write_fields.ensures, c.cbv_sent.ensures, c.part-data.ensures, c.user_length.ensures, c.part-pn.ensures)
+returns c = rw (c.write.ensures, c.cbv_sent.ensures, c.part-data.ensures, c.user_length.ensures, c.part-pn.ensures)

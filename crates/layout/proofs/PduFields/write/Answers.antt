@@ -1,6 +1,6 @@
--- `layout::write_fields` meets its contract. Assumes nothing.
+-- `PduFields::write` meets its contract. Assumes nothing.
 use Rattle.layout.specs.Layout.{frame_of}
-use Rattle.layout.proofs.write_fields.Goals as goal
+use Rattle.layout.proofs.PduFields.write.Goals as goal
 
 pub returns : goal.returns
 unfolding frame_of
