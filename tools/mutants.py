@@ -170,8 +170,13 @@ class Sources:
                 i = end
             elif word == "impl":
                 # the type stands before the block, behind the trait where there is one
+                # and before its own parameters, such as `<'a>`
                 block = code.find(i, "{")
-                self.read_items(file, code, block + 1, code.partner[block], path + [code.text(block - 1)])
+                named, depth = block - 1, 0
+                while depth or code.text(named) == ">":
+                    depth += (code.text(named) == ">") - (code.text(named) == "<")
+                    named -= 1
+                self.read_items(file, code, block + 1, code.partner[block], path + [code.text(named)])
                 i = code.partner[block]
             elif word in ("struct", "enum"):
                 i = self.read_type(code, i, path + [name])
@@ -206,7 +211,9 @@ class Sources:
         for first, behind in code.parts(opening):
             members.append((first + 1 if code[first].text == "pub" else first, behind))
         if code[i].text == "enum":
-            self.enums.append((path, [(code[f].text, code.type_text(f + 1, b)) for f, b in members]))
+            # a number behind `=` is no type
+            carried = [(code[f].text, "" if code.text(f + 1) == "=" else code.type_text(f + 1, b)) for f, b in members]
+            self.enums.append((path, carried))
         elif code[opening].text == "{":
             self.structs.append((path, [(code[f].text, code.type_text(f + 2, b)) for f, b in members]))
         else:
