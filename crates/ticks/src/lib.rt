@@ -37,10 +37,7 @@ fn next_bit(remainder: u32, shifted: u32) -> QuotientBit
     ensures { result ≡ next_bit remainder shifted }
 {
     if remainder < shifted {
-        return QuotientBit {
-            bit: 0,
-            remainder,
-        };
+        return QuotientBit { bit: 0, remainder };
     }
     QuotientBit {
         bit: 1,
@@ -93,12 +90,12 @@ fn covers(period: u64, ms: u64, count: u64) -> bool
 }
 
 // Is a number of ticks the one that `to_ticks` gives, 0 where it refuses the pair? Found by multiplying, so that a kept
-// conversion is cheap to check.
+// conversion is cheap to check. By `<`, since behind `contains` the proof did not find that the period is at least 1.
 #[tactic(auto, using(crate::proofs::Rounding::covers_is), unfolding(crate::specs::Ticks::conversion_of))]
 pub fn is_conversion(period: u64, ms: u64, ticks: u16) -> bool
     ensures { result ≡ eqb ticks (result_unwrap_or (conversion_of period ms) 0) }
 {
-    if !(PERIOD_LEAST..=PERIOD_MOST).contains(&period) || TIME_MOST < ms {
+    if period < PERIOD_LEAST || PERIOD_MOST < period || TIME_MOST < ms {
         return ticks == 0;
     }
     covers(period, ms, ticks as u64)
