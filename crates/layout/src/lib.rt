@@ -47,6 +47,7 @@ pub struct PduFields<'a> {
 
 impl PduFields<'_> {
     // The fields in a frame: header fields in their bytes, PN bytes and user data in their ranges.
+    #[tactic(auto, unfolding(crate::specs::Layout::frame_of))]
     pub fn write(self, c: Config, frame: &mut [u8])
         ensures { frame.new ≡ frame_of c (lent self.entry) frame.old }
     {
@@ -58,6 +59,7 @@ impl PduFields<'_> {
 }
 
 // Are so many PN bytes and user bytes of the configured lengths?
+#[tactic(auto, unfolding(crate::specs::Layout::of_lengths))]
 pub fn of_lengths(c: Config, pn: usize, user: usize) -> bool
     ensures { result ≡ of_lengths c pn user }
 {

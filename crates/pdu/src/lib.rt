@@ -7,7 +7,7 @@
 
 ghost use Rattle.std.specs.Prelude.{◌≡◌, []};
 ghost use Rattle.layout.specs.Fields.{lent};
-ghost use Rattle.pdu.specs.Pdu.{composed, composing, header_reading, reading, taken_by};
+ghost use Rattle.pdu.specs.Pdu.{composed, composing, header_of, header_reading, reading, taken_by};
 
 use answers::{Answer, Refusal};
 use config::{Config, Layout};
@@ -33,10 +33,20 @@ pub fn compose(c: Config, fields: PduFields, frame: &mut [u8]) -> Answer
 // ---- reading
 
 // The header fields of a PDU; one that is off reads 0.
-#[derive(Clone, Copy, PartialEq, Eq)]
+#[derive(Clone, Copy, PartialEq, Eq, Default)]
 pub struct Header {
     pub sni: u8,
     pub cbv: u8,
+}
+
+// Those of a PDU in its layout.
+fn header_of(l: Layout, pdu: &[u8]) -> Header
+    ensures { result ≡ header_of l pdu.now }
+{
+    Header {
+        sni: layout::byte_at(pdu, l.sni),
+        cbv: layout::byte_at(pdu, l.cbv),
+    }
 }
 
 // The fields of a PDU: PN bytes and user data go into lent bytes.
@@ -51,10 +61,7 @@ pub fn read(c: Config, pdu: &[u8], pn: &mut [u8], user: &mut [u8]) -> Result<Hea
     }
     slices::take_part(pdu, c.pn.start as usize, pn);
     slices::take_part(pdu, config::user_start(c) as usize, user);
-    Ok(Header {
-        sni: layout::byte_at(pdu, c.layout.sni),
-        cbv: layout::byte_at(pdu, c.layout.cbv),
-    })
+    Ok(header_of(c.layout, pdu))
 }
 
 // The header fields alone, of a PDU whose length and positions are given.
@@ -66,8 +73,5 @@ pub fn read_header(l: Layout, pdu: &[u8]) -> Result<Header, Refusal>
     if pdu.len() as u64 != l.length {
         return Err(Refusal::Length);
     }
-    Ok(Header {
-        sni: layout::byte_at(pdu, l.sni),
-        cbv: layout::byte_at(pdu, l.cbv),
-    })
+    Ok(header_of(l, pdu))
 }
