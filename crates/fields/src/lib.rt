@@ -41,7 +41,7 @@ fn digits(s: &[u8]) -> Option<u64>
 {
     let mut n: u64 = 0;
     for &d in s {
-        if d < b'0' || b'9' < d {
+        if !d.is_ascii_digit() {
             return None;
         }
         n = n * 10 + u64::from(d - b'0');
@@ -53,7 +53,7 @@ fn digits(s: &[u8]) -> Option<u64>
 pub fn decimal(s: &[u8]) -> Option<u64>
     ensures { result ≡ decimal_of s.now }
 {
-    if s.len() == 0 || DIGITS_MOST < s.len() {
+    if s.is_empty() || DIGITS_MOST < s.len() {
         return None;
     }
     if 1 < s.len() && s[0] == b'0' {
@@ -76,6 +76,7 @@ pub fn token(f: &[u8]) -> u64
 pub fn tokens(line: &[u8], out: &mut [u64]) -> usize
     ensures { filled result out.new ≡ fill out.old (tokens_of line.now) }
 {
+    // Counted by hand, since the count is the answer.
     let mut k = 0;
     for field in line.split(|b| *b == TAB) {
         slices::put(out, k, token(field));
