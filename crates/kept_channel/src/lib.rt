@@ -41,7 +41,7 @@ impl KeptChannel {
     }
 
     // Is its state sound?
-    #[tactic(auto, using(soundness::proofs::Alike::sound_alike), unfolding(channel::specs::Channel::sound))]
+    #[tactic(auto, using(soundness::proofs::Alike::prepared_alike), unfolding(channel::specs::Channel::sound))]
     pub fn is_sound(&self) -> bool
         ensures { result ≡ sound self.now }
     {

@@ -82,12 +82,7 @@ pub fn digit(a: Answer) -> u8
 fn quiet() -> Notes
     ensures { result ≡ quiet }
 {
-    Notes {
-        first: None,
-        second: None,
-        eira: false,
-        era: false,
-    }
+    Notes::default()
 }
 
 // A line without notes and frame. There must be room for the longest.
