@@ -33,7 +33,7 @@ pub fn compose(c: Config, fields: PduFields, frame: &mut [u8]) -> Answer
 // ---- reading
 
 // The header fields of a PDU; one that is off reads 0.
-#[derive(Clone, Copy, PartialEq, Eq)]
+#[derive(Clone, Copy, Default, PartialEq, Eq)]
 pub struct Header {
     pub sni: u8,
     pub cbv: u8,
