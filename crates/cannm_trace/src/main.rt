@@ -26,21 +26,19 @@ const OUTPUT: usize = 131072;
 struct Output {
     bytes: [u8; OUTPUT],
     n: usize,
-    ghost within: { n ≤ 131072 },
+    ghost within: { n ≤ length bytes },
 }
 
 impl Output {
-    // What is not yet written is.
+    // Writes what is not yet written.
     fn write_to<W: Write>(&mut self, to: &mut W) -> io::Result<()> {
         to.write_all(slices::part(&self.bytes, 0, self.n))?;
         self.n = 0;
         Ok(())
     }
 
-    // Text behind it. Where it has no room there, what is not yet written is written first.
-    fn append<W: Write>(&mut self, to: &mut W, text: &[u8]) -> io::Result<()>
-        requires { length text.now ≤ 131072 }
-    {
+    // Puts a text behind it. Where there is no room for it, what is not yet written is written first.
+    fn append<W: Write>(&mut self, to: &mut W, text: &[u8]) -> io::Result<()> {
         if text.len() <= OUTPUT - self.n {
             slices::put_part(&mut self.bytes, self.n, text);
             self.n += text.len();
@@ -48,7 +46,7 @@ impl Output {
         }
         self.write_to(to)?;
         slices::copy(text, &mut self.bytes);
-        self.n = text.len();
+        self.n = text.len().min(OUTPUT);
         Ok(())
     }
 }
