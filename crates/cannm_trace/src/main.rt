@@ -51,7 +51,7 @@ impl Output {
     }
 }
 
-// What a block prints into, and what is then to be written.
+// What a block prints into, and what is then to be written. Where it is written to stands beside it: that is lent, and of any type.
 #[derive(Drop)]
 struct Buffers {
     page: [u8; BLOCK_ROOM],

@@ -33,7 +33,7 @@ pub fn refused(ch: Channel, a: Answer) -> Reply
     }
 }
 
-// The reply of a call that left this channel.
+// The reply of a call: the channel after it, and what it tells or its refusal.
 pub fn reply_of(ch: Channel, told: Result<Told, Refusal>) -> Reply
     ensures { result ≡ reply_of ch told }
 {

@@ -6,7 +6,8 @@ use answers::{Answer, Refusal};
 use config::{Config, PDU_MOST, PN_MOST, PNC_MOST, Ticks};
 use states::{Mode, Note, Traffic};
 
-// A channel without EIRA, whose timers are the only part that no rule of the channel reads.
+// A channel without EIRA, whose timers are the only part that no rule of the channel reads. Configuration and ticks stay two
+// values: a host hands over the one, and `rules::first_broken_by` judges it with any ticks.
 #[derive(Clone, Copy)]
 pub struct Own {
     pub config: Config,

@@ -38,7 +38,7 @@ pub fn read(l: &[u8], bytes: &mut [u8]) -> Option<Command>
     if blocks::LINE_MOST < l.len() {
         return None;
     }
-    // The first field ends before the end exactly if a tab stands behind it.
+    // By the place where the first field ends, as every reader of a line has it: a tab stands there, unless the line ends.
     let end = fields::field_end(l, 0);
     if end < l.len() {
         return argued(names::call(&l[..end]), &l[end + 1..], bytes);

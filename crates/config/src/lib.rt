@@ -22,7 +22,7 @@ pub const PNC_MOST: usize = 8 * PN_MOST;
 
 // ---- the fields
 
-// The times of a channel (AUTOSAR's parameter, document 01's letter).
+// The times of a channel (AUTOSAR's parameter, and its letter in README, "Configuration").
 #[derive(Clone, Copy, Default)]
 pub struct Times<T> {
     pub timeout: T, // CanNmTimeoutTime, T

@@ -1,7 +1,7 @@
 // The partial-network filter: whether a PDU with this control bit vector and these PN bytes is kept.
 //
 // Promises: each function is a definition of specs/, for any bytes and any mask; PN bytes and a mask of unequal lengths
-// are refused. Leaves to others: whether the filter is on, and where a PDU has these bytes (`frames`).
+// are refused. Leaves to others: whether the filter is on, and where a PDU has these bytes (`heard`).
 #![tactic(auto)]
 
 ghost use Rattle.std.specs.Prelude.{◌≡◌};

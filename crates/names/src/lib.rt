@@ -10,7 +10,7 @@
 ghost use Rattle.std.specs.Prelude.{◌≡◌, ◌==◌, ◌+◌, ◌*◌};
 ghost use Rattle.names.specs.Names.{call_of, name_at, packed};
 
-// The names, each as it is spelled, in the order of their numbers.
+// The names, in the order of their numbers (`number_of`, specs/Names).
 #[derive(Clone, Copy, PartialEq, Eq)]
 pub enum Name {
     Req,

@@ -38,7 +38,8 @@ pub fn put_limits(c: Config, t: Ticks, limits: &mut [u16; PNC_MOST])
     put_where(&filled, t.reset, limits);
 }
 
-// Is each timer of a table at most its limit?
+// Is each timer of a table at most its limit? By place, and of all of them: `all` would stop at the first that is not, and a loop
+// that stops is no vector code.
 fn under(limits: &[u16], table: &[u16]) -> bool
     requires { length table.now ≤ length limits.now }
     ensures { result ≡ all_under limits.now table.now }

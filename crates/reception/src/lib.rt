@@ -1,7 +1,7 @@
 // A PDU received.
 //
 // Promises: the channel, answer and notes of channel's definition `replied`, over every channel handed in and all bytes,
-// refusals included. Leaves to others: what the filter decides and which timers a PDU loads (`frames`).
+// refusals included. Leaves to others: what the filter decides and which timers a PDU loads (`heard`).
 #![tactic(auto)]
 
 ghost use Rattle.std.specs.Prelude.{◌≡◌};

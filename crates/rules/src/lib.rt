@@ -1,6 +1,7 @@
 // The first broken rule of a configuration.
 //
-// Promises: the first of the eight rules that is broken, if one is, for every configuration whatever its numbers. Leaves to others: the rules themselves (`time_rules`, `header_rules`, `pn_rules`).
+// Promises: the first of the eight rules that is broken, if one is, for every configuration whatever its numbers. Leaves to
+// others: the rules themselves (`time_rules`, `header_rules`, `pn_rules`).
 #![tactic(auto)]
 
 ghost use Rattle.std.specs.Prelude.{◌≡◌};

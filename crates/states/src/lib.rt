@@ -83,7 +83,7 @@ pub fn settled(s: State) -> bool
     matches!(s, State::NormalOperation | State::ReadySleep)
 }
 
-// The next four say no more than `==`, with which crates here compare states; docs/PROMISES.md names them.
+// The next four are `==` with a state, which the crates here write themselves; they stay since docs/PROMISES.md names them.
 pub fn is_bus_sleep(s: State) -> bool
     ensures { result ≡ is_bus_sleep s }
 {
