@@ -14,7 +14,7 @@ use answers::{Answer, Refusal};
 use config::{Config, PDU_MOST, PNC_MOST, Ticks, Times};
 use decision::Rule;
 use state::{Channel, Notes, Own, Reply, Started, Told};
-use states::{Mode, State, Traffic};
+use states::{Mode, Traffic};
 
 pub mod state;
 
@@ -91,17 +91,12 @@ fn fresh_mode() -> Mode
     ensures { result ≡ fresh_mode }
 {
     Mode {
-        state: State::BusSleep,
-        requested: false,
         sending: true,
-        filter: false,
-        nm: 0,
-        wait: 0,
-        repeat: 0,
+        ..Mode::default()
     }
 }
 
-// The channel of zeros.
+// The channel of zeros. No `Channel::default()`: the check doesn't relate the default of its arrays to `zero`.
 #[tactic(auto, unfolding(crate::specs::Channel::zero))]
 fn zero() -> Channel
     ensures { result ≡ zero }
@@ -110,10 +105,7 @@ fn zero() -> Channel
         own: Own {
             config: Config::default(),
             ticks: Times::default(),
-            mode: Mode {
-                sending: false,
-                ..fresh_mode()
-            },
+            mode: Mode::default(),
             traffic: Traffic::default(),
             user: [0; Channel::BYTES],
             requests: [0; Channel::BYTES],
