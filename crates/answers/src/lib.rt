@@ -8,25 +8,25 @@ ghost use Rattle.std.specs.Prelude.{◌≡◌, cond};
 ghost use Rattle.answers.specs.Answers.{answer_to, number_of, number_of_rule, rule_of, ruled};
 ghost use Rattle.answers.specs.declared.Refusal.TheVariants.{Rule};
 
-// The rules of a configuration, in the order in which they are judged.
+// The rules of a configuration, numbered from 1 in the order in which they are judged.
 #[derive(Clone, Copy, PartialEq, Eq)]
 pub enum BrokenRule {
     // The period of the main function is within its bounds.
-    Period,
+    Period = 1,
     // Every time, the number of fast frames and the node id are within their bounds.
-    Bounds,
+    Bounds = 2,
     // The offset is below the cycle.
-    Offset,
+    Offset = 3,
     // Fast frames have a cycle of at least one tick.
-    FastCycle,
+    FastCycle = 4,
     // The timeout is above the cycle.
-    Timeout,
+    Timeout = 5,
     // The length of the PDU is within its bounds.
-    PduLength,
+    PduLength = 6,
     // The header fields have places of their own in the PDU.
-    Header,
+    Header = 7,
     // The PN range, the mask and the reset time fit the rest.
-    PartialNetwork,
+    PartialNetwork = 8,
 }
 
 impl BrokenRule {
@@ -37,20 +37,11 @@ impl BrokenRule {
         if kept { Ok(()) } else { Err(self) }
     }
 
-    // The number of a rule.
+    // The number of a rule. A number, since the C functions `cannm_ticks` and `cannm_read_pdu` give it to hosts.
     pub fn number(self) -> u8
         ensures { result ≡ number_of_rule self }
     {
-        match self {
-            BrokenRule::Period => 1,
-            BrokenRule::Bounds => 2,
-            BrokenRule::Offset => 3,
-            BrokenRule::FastCycle => 4,
-            BrokenRule::Timeout => 5,
-            BrokenRule::PduLength => 6,
-            BrokenRule::Header => 7,
-            BrokenRule::PartialNetwork => 8,
-        }
+        self as u8
     }
 }
 
@@ -86,21 +77,18 @@ pub type Answer = Result<(), Refusal>;
 pub fn answer_to<T: Drop>(r: Result<T, Refusal>) -> Answer
     ensures { result ≡ answer_to r }
 {
-    match r {
-        Ok(_) => Ok(()),
-        Err(refusal) => Err(refusal),
-    }
+    r?;
+    Ok(())
 }
 
 // The answer to what gives a value, or breaks a rule.
 pub fn ruled<T: Drop>(r: Result<T, BrokenRule>) -> Answer
     ensures { result ≡ ruled r }
 {
-    r?;
-    Ok(())
+    answer_to(r.map_err(Refusal::from))
 }
 
-// The number of an answer.
+// The number of an answer. A number, since every answer of the C functions in `cannm_c` is one.
 pub fn number(a: Answer) -> u8
     ensures { result ≡ number_of a }
 {
@@ -115,7 +103,7 @@ pub fn number(a: Answer) -> u8
     }
 }
 
-// The number of the broken rule, 0 where the answer is not about one.
+// The number of the broken rule, 0 where the answer is not about one: the C functions `cannm_ticks` and `cannm_read_pdu` give it.
 pub fn rule(a: Answer) -> u8
     ensures { result ≡ rule_of a }
 {

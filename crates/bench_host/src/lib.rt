@@ -5,78 +5,56 @@
 // does (`tick`, `reception`), and the channel as words (`test_host::exchange`).
 #![tactic(auto)]
 
-use answers::Answer;
-use channel::state::Notes;
-use states::Note;
+use channel::state::{Channel, Notes, Reply};
 
 // What a run gave, summed over its calls: the answers' numbers, how many notes were raised, how many frames were sent.
+// C interface of the tests: bench/calls declares it.
 #[repr(C)]
-#[derive(Clone, Copy)]
+#[derive(Clone, Copy, Default)]
 pub struct Sums {
     pub answers: u32,
     pub notes: u32,
     pub frames: u32,
 }
 
-fn digit(set: bool) -> u32 {
-    u32::from(set)
+// How many notes a call raised.
+fn raised(notes: Notes) -> u32 {
+    let states = u32::from(notes.first.is_some()) + u32::from(notes.second.is_some());
+    states + u32::from(notes.eira) + u32::from(notes.era)
 }
 
-fn raised(note: Option<Note>) -> u32 {
-    digit(note.is_some())
-}
-
-fn sum(a: u32, b: u32) -> u32 {
-    std::num::wrapping_add_u32(a, b)
-}
-
-// The sums with one more call. It takes the small parts of a reply, whose channel would be copied.
-fn with(s: Sums, a: Answer, notes: Notes, sent: bool) -> Sums {
-    let first = notes.first;
-    let second = notes.second;
-    let states = sum(raised(first), raised(second));
-    let vectors = sum(digit(notes.eira), digit(notes.era));
+// The sums with one more call. The reply is lent: its channel would be copied.
+fn with(s: Sums, r: &Reply) -> Sums {
     Sums {
-        answers: sum(s.answers, answers::number(a) as u32),
-        notes: sum(s.notes, sum(states, vectors)),
-        frames: sum(s.frames, digit(sent)),
+        answers: s.answers.wrapping_add(answers::number(r.answer) as u32),
+        notes: s.notes.wrapping_add(raised(r.notes)),
+        frames: s.frames.wrapping_add(u32::from(r.sent)),
     }
 }
 
-fn no_sums() -> Sums {
-    Sums {
-        answers: 0,
-        notes: 0,
-        frames: 0,
+// So many equal calls on the channel of the words.
+fn run<F: FnMut(Channel) -> Reply>(words: &mut [u64], count: u32, mut call: F) -> Sums
+    requires { F.IsAlwaysCallable call }
+{
+    let mut ch = test_host::exchange::channel_in(words);
+    let mut sums = Sums::default();
+    for _ in 0..count {
+        let r = call(ch);
+        sums = with(sums, &r);
+        ch = r.channel;
     }
+    test_host::exchange::put_channel(words, ch);
+    sums
 }
 
 // Ticks of the main function, with a driver that takes every frame.
 #[unsafe(no_mangle)]
 pub extern "C" fn bench_ticks(words: &mut [u64], count: u32, frame: &mut [u8]) -> Sums {
-    let mut ch = test_host::exchange::channel_in(words);
-    let mut sums = no_sums();
-    for _ in 0..count {
-        let r = tick::main_function(ch, true, frame);
-        let a = r.answer;
-        sums = with(sums, a, r.notes, r.sent);
-        ch = r.channel;
-    }
-    test_host::exchange::put_channel(words, ch);
-    sums
+    run(words, count, |ch| tick::main_function(ch, true, frame))
 }
 
 // The same PDU, received again and again.
 #[unsafe(no_mangle)]
 pub extern "C" fn bench_received(words: &mut [u64], count: u32, pdu: &[u8]) -> Sums {
-    let mut ch = test_host::exchange::channel_in(words);
-    let mut sums = no_sums();
-    for _ in 0..count {
-        let r = reception::rx_indication(ch, pdu);
-        let a = r.answer;
-        sums = with(sums, a, r.notes, r.sent);
-        ch = r.channel;
-    }
-    test_host::exchange::put_channel(words, ch);
-    sums
+    run(words, count, |ch| reception::rx_indication(ch, pdu))
 }

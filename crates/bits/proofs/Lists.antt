@@ -1,16 +1,16 @@
 -- Laws of lists changed place by place, and of tests and sums over the places of a range, for any length. Assumes nothing.
 use mathlib.Core.Path.{◌≡◌, refl, ap, sym, ◌∙◌}
 use mathlib.Core.Bool.{Bool, true, false, ◌&&◌, ◌||◌, and-eq-true_iff, or-true, or-false, or_assoc, false≢true}
-use mathlib.Core.List.{List, [], ◌∷◌}
+use mathlib.Core.List.{List, [], ◌∷◌, ◌++◌}
 use mathlib.Core.Logic.{⊎_elim}
 use Prim.Native.Nat.{ℕ, zero, suc, ◌+◌, ◌<◌, ◌≤◌, zero-le}
 use native.Mathlib.Nat.{eq-or-lt_of_le, le_antisymm, add-zero, zero-add, add-suc, suc-add, le_of_suc-le-suc, not-suc-le-zero}
 use native.Mathlib.Numerals.{add-one}
 use native.Mathlib.Omega.{arith}
-use lib.ListN.{length, get_or, set, length-set}
+use lib.ListN.{length, get_or, set, take, drop, length-set}
 use Rattle.std.specs.List.{sum_by}
 use Rattle.std.proofs.lemmas.List.Sums.{sum_by-cons}
-use Rattle.choice.proofs.Tests.{or_cases}
+use Rattle.std.proofs.lemmas.Bool.{or_cases}
 use Rattle.bits.specs.Lists.{map_from, all_below, any_below, sum_below}
 
 -- ---- map_from
@@ -92,19 +92,28 @@ first_rest f b zero (x ∷ xs) h =
 first_rest f b (suc n) (x ∷ xs) h =
     ap (λ (l : List ℕ). f b x ∷ l) (first_rest f (suc b) n xs (λ k y l m. h k y (omega arith) (omega arith)))
 
--- the end of a loop behind whose places nothing changes
-pub upto_rest : (f : ℕ → ℕ → ℕ) (xs ys : List ℕ) (n : ℕ) → ((k x : ℕ) → n ≤ k → k < length ys → f k x ≡ x) → Upto f xs ys n → ys ≡ map_from f 0 xs
-upto_rest f xs ys n h u = u.0 ∙ first_rest f 0 n xs (λ k x l m. h k x (omega arith) (rw u.1 (omega arith)))
+-- the first n elements changed, and the others as they were
+first_front : (f : ℕ → ℕ → ℕ) (b n : ℕ) (xs : List ℕ) → map_from f b (take n xs) ++ drop n xs ≡ map_first f b n xs
+first_front f b zero xs = refl
+first_front f b (suc n) [] = refl
+first_front f b (suc n) (x ∷ xs) = ap (λ (l : List ℕ). f b x ∷ l) (first_front f (suc b) n xs)
+
+-- the end of a loop over the first n elements, behind which nothing changes
+pub front_all : (f : ℕ → ℕ → ℕ) (n : ℕ) (xs : List ℕ) → ((k x : ℕ) → n ≤ k → k < length xs → f k x ≡ x)
+    → map_from f 0 (take n xs) ++ drop n xs ≡ map_from f 0 xs
+front_all f n xs h = first_front f 0 n xs ∙ first_rest f 0 n xs (λ k x l m. h k x (omega arith) (omega arith))
+
+-- ---- the end of a loop
+
+-- a loop that has come to its last place, m, holds what it was to find up to there
+pub loop_done : {A : Type 0} (g : ℕ → A) {n m : ℕ} {x : A} → n ≤ m → m ≤ n → x ≡ g n → x ≡ g m
+loop_done g h k w = rw (← le_antisymm h k) w
 
 -- ---- tests at each place
 
 -- one turn of a loop that tests each place
 pub all_more : (p : ℕ → Bool) (n : ℕ) {b b' : Bool} → b ≡ all_below p n → b' ≡ b && p n → b' ≡ all_below p (n + 1)
 all_more p n {b} e w = rw (w, e, add-one n)
-
--- the end of such a loop
-pub all_done : (p : ℕ → Bool) {n m : ℕ} {b : Bool} → n ≤ m → m ≤ n → b ≡ all_below p n → b ≡ all_below p m
-all_done p h k w = rw (← le_antisymm h k) w
 
 -- the same test at each place, the same answer
 pub all_ext : (p q : ℕ → Bool) (n : ℕ) → ((k : ℕ) → k < n → p k ≡ q k) → all_below p n ≡ all_below q n
@@ -123,27 +132,11 @@ all_at p (suc n) k e h =
     let s = (and-eq-true_iff (all_below p n) (p n)).0 e in
     ⊎_elim (λ q. rw q s.1) (λ l. all_at p n k s.0 l) (eq-or-lt_of_le (le_of_suc-le-suc h))
 
--- the middle two of four tests change places
-swap : (a b c d : Bool) → (a && b) && (c && d) ≡ (a && c) && (b && d)
-swap true true c d = refl
-swap true false true d = refl
-swap true false false d = refl
-swap false b c d = refl
-
--- one pass for two tests
-pub all_both : (p q : ℕ → Bool) (n : ℕ) → all_below (λ k. p k && q k) n ≡ all_below p n && all_below q n
-all_both p q zero = refl
-all_both p q (suc n) = rw (all_both p q n) (swap (all_below p n) (all_below q n) (p n) (q n))
-
 -- ---- tests at some place
 
 -- one turn of a loop that looks for a place
 pub any_more : (p : ℕ → Bool) (n : ℕ) {b b' : Bool} → b ≡ any_below p n → b' ≡ b || p n → b' ≡ any_below p (n + 1)
 any_more p n {b} e w = rw (w, e, add-one n)
-
--- the end of such a loop
-pub any_done : (p : ℕ → Bool) {n m : ℕ} {b : Bool} → n ≤ m → m ≤ n → b ≡ any_below p n → b ≡ any_below p m
-any_done p h k w = rw (← le_antisymm h k) w
 
 -- the same test at each place, the same answer
 pub any_ext : (p q : ℕ → Bool) (n : ℕ) → ((k : ℕ) → k < n → p k ≡ q k) → any_below p n ≡ any_below q n
@@ -191,6 +184,15 @@ pub sum_places : (f : ℕ → ℕ) (xs : List ℕ) → sum_by f xs ≡ sum_below
 sum_places f [] = refl
 sum_places f (x ∷ xs) = rw (sum_by-cons f x xs, sum_places f xs) (sym (sum_front (λ k. f (get_or (x ∷ xs) k 0)) (length xs)))
 
--- the end of a loop that sums
-pub sum_done : (f : ℕ → ℕ) {n m s : ℕ} → n ≤ m → m ≤ n → s ≡ sum_below f n → s ≡ sum_below f m
-sum_done f h k w = rw (← le_antisymm h k) w
+-- the same number at each place, the same sum
+pub sum_ext : (f g : ℕ → ℕ) (n : ℕ) → ((k : ℕ) → k < n → f k ≡ g k) → sum_below f n ≡ sum_below g n
+sum_ext f g zero h = refl
+sum_ext f g (suc n) h = rw (sum_ext f g n (λ k l. h k (omega arith)), h n (omega arith))
+
+-- the sum below m is that below n if every place behind n counts 0
+pub sum_rest : (f : ℕ → ℕ) (n m : ℕ) → n ≤ m → ((k : ℕ) → n ≤ k → k < m → f k ≡ 0) → sum_below f m ≡ sum_below f n
+sum_rest f n zero l h = let e : 0 ≡ n = omega arith in ap (sum_below f) e
+sum_rest f n (suc m) l h =
+    ⊎_elim (λ e. ap (sum_below f) (sym e))
+    (λ u. rw (sum_rest f n m (le_of_suc-le-suc u) (λ k a b. h k a (omega arith)), h m (le_of_suc-le-suc u) (omega arith)) (add-zero (sum_below f n)))
+    (eq-or-lt_of_le l)

@@ -11,10 +11,11 @@ ghost use Rattle.bits.specs.Bits.{bit_of, bit_at, some_masked, count_ones, lowes
 // ---- bits of bytes
 
 // Bit k of a byte; a byte has no bit 8 or above.
+#[tactic(auto, using(crate::proofs::Bits::bit_above))]
 pub fn bit_of(b: u8, k: u8) -> bool
     ensures { result ≡ bit_of b k }
 {
-    if k < 8 { (b >> k) % 2 == 1 } else { false }
+    k < 8 && (b >> k) % 2 == 1
 }
 
 // Bit k of a byte string, 0 past its end.

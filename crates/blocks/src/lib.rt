@@ -30,7 +30,7 @@ pub fn finished_len(s: &[u8]) -> usize
 }
 
 // The most lines that are counted, which is the largest number of a line.
-pub const LINES_MOST: u64 = 18446744073709551615;
+pub const LINES_MOST: u64 = u64::MAX;
 
 // Can the lines of a text be counted behind so many lines? They are looked for only if there are more bytes than line numbers
 // left: a text has no more lines than bytes.
@@ -38,8 +38,5 @@ pub fn lines_fit(lines: u64, text: &[u8]) -> bool
     ensures { result ≡ lines_fit lines text.now }
 {
     let left = LINES_MOST - lines;
-    if (text.len() as u64) <= left {
-        return true;
-    }
-    (text::line_count(text) as u64) <= left
+    text.len() as u64 <= left || text::line_count(text) as u64 <= left
 }

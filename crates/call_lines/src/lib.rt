@@ -26,6 +26,7 @@ pub fn running(run: Run, text: &[u8], from: usize, w: &mut Writer) -> Run
     let mut k = KeptChannel::new(run.channel);
     let mut n = run.lines;
     let mut at = from;
+    // By places, through the reader: that is a rule of the project.
     while let Some((first, end)) = text::line_at(text, at) {
         replay::later_line_in_place(&mut k, n, &text[first..end], w);
         n = runs::counted(n);

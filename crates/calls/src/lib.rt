@@ -13,10 +13,12 @@ ghost use Rattle.channel.specs.Moved.{finished, plainly};
 use answers::Answer;
 use channel::state::{Channel, Reply};
 use decision::Rule;
+use refusals::Tests;
 
 // ---- a call by its number
 
 // A call that changes no vector and no byte.
+#[tactic(auto, unfolding(channel::specs::Moved::finished))]
 fn finish(ch: Channel, a: Answer, rule: Rule, again: bool) -> Reply
     ensures { result ≡ finished ch a rule again }
 {
@@ -28,18 +30,26 @@ fn finish(ch: Channel, a: Answer, rule: Rule, again: bool) -> Reply
 
 // A call by its number, with what the table's rows 4 and 6 say of it. The eight public calls stay apart: each is one call of
 // this, with its own clause.
+#[tactic(auto, unfolding(channel::specs::Moved::plainly))]
 fn plain(ch: Channel, call: u8, passive: bool, off: bool, heeded: bool) -> Reply
     ensures { result ≡ plainly ch call passive off heeded }
 {
     let sound = ch.is_sound();
     let rule = decision::rule_of(ch.own.mode.state, call);
-    let a = refusals::judge(sound, passive, off, decision::is_not_here(rule), false);
+    let a = refusals::judge(Tests {
+        sound,
+        passive,
+        off,
+        elsewhere: decision::is_not_here(rule),
+        size: false,
+    });
     finish(ch, a, decision::heed(heeded, rule), false)
 }
 
 // ---- the calls
 
 // The host asks for the network.
+#[tactic(auto, using(channel::proofs::Numbers::by_number))]
 pub fn network_request(ch: Channel) -> Reply
     ensures { result ≡ replied ch network_request }
 {
@@ -53,6 +63,7 @@ pub fn network_request(ch: Channel) -> Reply
 }
 
 // The host needs the network no longer.
+#[tactic(auto, using(channel::proofs::Numbers::by_number))]
 pub fn network_release(ch: Channel) -> Reply
     ensures { result ≡ replied ch network_release }
 {
@@ -66,6 +77,7 @@ pub fn network_release(ch: Channel) -> Reply
 }
 
 // The network was started by another node.
+#[tactic(auto, using(channel::proofs::Numbers::by_number))]
 pub fn passive_start_up(ch: Channel) -> Reply
     ensures { result ≡ replied ch passive_start_up }
 {
@@ -73,6 +85,7 @@ pub fn passive_start_up(ch: Channel) -> Reply
 }
 
 // The host asks all nodes to announce themselves.
+#[tactic(auto, using(channel::proofs::Numbers::by_number))]
 pub fn repeat_message_request(ch: Channel) -> Reply
     ensures { result ≡ replied ch repeat_message_request }
 {
@@ -85,6 +98,7 @@ pub fn repeat_message_request(ch: Channel) -> Reply
     )
 }
 
+#[tactic(auto, using(channel::proofs::Numbers::by_number))]
 pub fn disable_communication(ch: Channel) -> Reply
     ensures { result ≡ replied ch disable_communication }
 {
@@ -97,6 +111,7 @@ pub fn disable_communication(ch: Channel) -> Reply
     )
 }
 
+#[tactic(auto, using(channel::proofs::Numbers::by_number))]
 pub fn enable_communication(ch: Channel) -> Reply
     ensures { result ≡ replied ch enable_communication }
 {
@@ -110,6 +125,7 @@ pub fn enable_communication(ch: Channel) -> Reply
 }
 
 // The driver's word on a frame that was sent: good or bad.
+#[tactic(auto, using(channel::proofs::Numbers::by_number))]
 pub fn tx_confirmation(ch: Channel, good: bool) -> Reply
     ensures { result ≡ replied ch (tx_confirmation good) }
 {
@@ -123,6 +139,7 @@ pub fn tx_confirmation(ch: Channel, good: bool) -> Reply
 }
 
 // The partial-network filter is turned on.
+#[tactic(auto, using(channel::proofs::Numbers::by_number))]
 pub fn confirm_pn_availability(ch: Channel) -> Reply
     ensures { result ≡ replied ch confirm_pn_availability }
 {

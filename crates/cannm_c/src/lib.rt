@@ -9,8 +9,8 @@ ghost use Rattle.std.specs.Prelude.{◌≡◌};
 ghost use Rattle.cannm_c.specs.Host.{converted_for, decided_for, read_for};
 
 use config::Layout;
-use pdu::Header;
 
+// C interface: the three structs and their numbers stand in include/cannm.h.
 #[repr(C)]
 #[derive(Clone, Copy)]
 pub struct TicksResult {
@@ -78,7 +78,7 @@ pub extern "C" fn cannm_read_pdu(length: u32, sni: u32, cbv: u32, pdu: &[u8]) ->
         pdu,
     );
     let a = answers::answer_to(r);
-    let header = r.unwrap_or(Header { sni: 0, cbv: 0 });
+    let header = r.unwrap_or_default();
     HeaderResult {
         answer: answers::number(a) as u32,
         rule: answers::rule(a) as u32,

@@ -5,6 +5,8 @@
 // written; that they are the input's and the text's is tested.
 #![tactic(auto)]
 
+ghost use Rattle.std.specs.Prelude.{◌≤◌, length};
+
 use std::io;
 use std::io::{Read, Write};
 use trace::{BLOCK_MOST, BLOCK_ROOM, Trace};
@@ -19,56 +21,56 @@ const OUTPUT: usize = 131072;
 
 // ---- writing
 
-// What is printed and not yet written: the first `n` bytes.
+// What is printed and not yet written: the first `n` bytes. No `BufWriter`: it asks the heap, and nothing here does.
 #[derive(Drop)]
 struct Output {
     bytes: [u8; OUTPUT],
     n: usize,
+    ghost within: { n ≤ length bytes },
 }
 
 impl Output {
-    // What is not yet written is.
+    // Writes what is not yet written.
     fn write_to<W: Write>(&mut self, to: &mut W) -> io::Result<()> {
         to.write_all(slices::part(&self.bytes, 0, self.n))?;
         self.n = 0;
         Ok(())
     }
 
-    // Text behind it. Where it has no room there, what is not yet written is written first.
+    // Puts a text behind it. Where there is no room for it, what is not yet written is written first.
     fn append<W: Write>(&mut self, to: &mut W, text: &[u8]) -> io::Result<()> {
-        if slices::part(&self.bytes, self.n, text.len()).len() == text.len() {
+        if text.len() <= OUTPUT - self.n {
             slices::put_part(&mut self.bytes, self.n, text);
             self.n += text.len();
             return Ok(());
         }
         self.write_to(to)?;
         slices::copy(text, &mut self.bytes);
-        self.n = text.len();
+        self.n = text.len().min(OUTPUT);
         Ok(())
     }
 }
 
-// What is read into, what a block prints into, and what is then to be written.
+// What a block prints into, and what is then to be written. Where it is written to stands beside it: that is lent, and of any type.
 #[derive(Drop)]
 struct Buffers {
-    input: [u8; INPUT],
     page: [u8; BLOCK_ROOM],
     out: Output,
 }
 
 // ---- blocks
 
-// The first n bytes of what was read, block by block, and all that it prints is written. Answers the trace behind it, or none
-// where no block is to follow. After a write that fails, nothing more is written. No input is so long that a block is refused;
-// should one be, nothing more is printed: what the lines behind it would have said is not known.
+// What was read, block by block, and all that it prints is written. Answers the trace behind it, or none where no block is to
+// follow. After a write that fails, nothing more is written. No input is so long that a block is refused; should one be, nothing
+// more is printed: what the lines behind it would have said is not known.
 fn blocks<W: Write>(
     to: &mut W,
     trace: Trace,
-    n: usize,
+    text: &[u8],
     buffers: &mut Buffers,
 ) -> io::Result<Option<Trace>> {
     let mut now = trace;
-    for block in slices::part(&buffers.input, 0, n).chunks(BLOCK_MOST) {
+    for block in text.chunks(BLOCK_MOST) {
         let r = trace::block(now, block, &mut buffers.page);
         buffers
             .out
@@ -97,21 +99,27 @@ fn turn<R: Read, W: Write>(
     from: &mut R,
     to: &mut W,
     trace: Trace,
+    input: &mut [u8; INPUT],
     buffers: &mut Buffers,
 ) -> io::Result<Option<Trace>> {
-    let n = from.read(&mut buffers.input)?;
+    let n = from.read(input)?;
     if n == 0 {
         end(to, trace, buffers)?;
         return Ok(None);
     }
-    blocks(to, trace, n, buffers)
+    blocks(to, trace, &input[..n], buffers)
 }
 
 // The turns are counted only so that the loop is seen to end: there are more than any input has bytes.
-fn run_all<R: Read, W: Write>(from: &mut R, to: &mut W, buffers: &mut Buffers) -> io::Result<()> {
+fn run_all<R: Read, W: Write>(
+    from: &mut R,
+    to: &mut W,
+    input: &mut [u8; INPUT],
+    buffers: &mut Buffers,
+) -> io::Result<()> {
     let mut now = trace::start();
     for _ in 0..u64::MAX {
-        match turn(from, to, now, buffers)? {
+        match turn(from, to, now, input, buffers)? {
             Some(next) => now = next,
             None => return Ok(()),
         }
@@ -121,13 +129,13 @@ fn run_all<R: Read, W: Write>(from: &mut R, to: &mut W, buffers: &mut Buffers) -
 
 // A read or a write that fails ends the run, and the exit status is 0 then too.
 fn main(rt: HostRuntime) {
+    let mut input = [0u8; INPUT];
     let mut buffers = Buffers {
-        input: [0u8; INPUT],
         page: [0u8; BLOCK_ROOM],
         out: Output {
             bytes: [0u8; OUTPUT],
             n: 0,
         },
     };
-    let _ = run_all(&mut rt.stdin(), &mut rt.stdout(), &mut buffers);
+    let _ = run_all(&mut rt.stdin(), &mut rt.stdout(), &mut input, &mut buffers);
 }

@@ -3,21 +3,36 @@ use mathlib.Core.Path.{◌≡◌, refl, ◌∙◌}
 use mathlib.Core.Bool.{Bool, true, false, cond}
 use mathlib.Core.List.{List}
 use Prim.Native.Nat.{ℕ}
+use Rattle.std.specs.Prelude.{Ok, Err}
+use Rattle.answers.specs.declared.Refusal.{Refusal}
 use Rattle.answers.specs.Answers.{Answer}
 use Rattle.channel.specs.declared.state.Channel.{Channel}
 use Rattle.channel.specs.declared.state.Reply.{Reply}
 use Rattle.decision.specs.declared.Rule.TheVariants.{Keep}
 use lib.ListN.{length}
-use Rattle.decision.specs.Decision.{Call, main_function, rx_indication}
+use Rattle.decision.specs.Decision.{Call, call_number, is_not_here, main_function, rule_of, rx_indication}
 use Rattle.frames.specs.Frames.{framed}
 use Rattle.heard.specs.Heard.{accepted}
 use Rattle.mode_transitions.specs.ModeTransitions.{mode_by}
 use Rattle.notes.specs.Notes.{first_by, second_by}
-use Rattle.refusals.specs.Refusals.{is_done}
+use Rattle.refusals.specs.Refusals.{first_of, is_done, judged, refusal, refused_length, refused_passive, refused_pn_off}
 use Rattle.traffic_transitions.specs.TrafficTransitions.{traffic_by}
 use Rattle.vectors.proofs.Vectors.{differs_not}
-use Rattle.channel.specs.Channel.{again_for, answer_of, carried_out, eira_after, era_after, frame_after, heard_by, is_taken, mode_after, notes_after, own_after, refused, replied, requests_after, rule_for, sends, traffic_after, traffic_moved, user_after}
+use Rattle.channel.specs.Channel.{again_for, answer_of, carried_out, eira_after, era_after, frame_after, heard_by, is_taken, mode_after, notes_after, own_after, refused, replied, requests_after, rule_for, sends, sound, traffic_after, traffic_moved, user_after}
 use Rattle.channel.specs.Moved.{moved_by}
+use Rattle.channel.specs.Told.{reply_of, told_of}
+
+-- the answer of a call, by what the code tests of it
+pub answered : (ch : Channel) (x : Call) {a : Answer} {ok here : Bool} → let c = ch.own.config in
+    a ≡ judged ok (first_of (refused_passive c x) (refused_pn_off c x) here (refused_length c x))
+    → ok ≡ sound ch → here ≡ is_not_here (rule_of ch.own.mode.state (call_number x)) → a ≡ answer_of ch x
+unfolding answer_of refusal
+answered ch x j s h = rw (j, s, h)
+
+-- a call that is refused
+pub refusing : (ch : Channel) (x : Call) {a : Answer} {r : Refusal} → a ≡ answer_of ch x → a ≡ Err r → replied ch x ≡ refused ch (Err r)
+unfolding replied
+refusing ch x e w = rw (← e, w)
 
 pub carried : (ch : Channel) (x : Call) {a : Answer} {r : Reply} {t : Bool} → a ≡ answer_of ch x → t ≡ is_done a → t ≡ true
     → r ≡ carried_out ch x → r ≡ replied ch x
@@ -67,3 +82,12 @@ keeps ch x = go (is_done (answer_of ch x))
     go : (d : Bool) → Keeps ch (cond d (carried_out ch x) (refused ch (answer_of ch x)))
     go true = record { config = refl; ticks = refl }
     go false = record { config = refl; ticks = refl }
+
+-- a reply is its channel and what it tells
+pub told_again : (ch : Channel) (x : Call) → reply_of (replied ch x).channel (told_of (replied ch x)) ≡ replied ch x
+unfolding replied carried_out refused
+told_again ch x = go (answer_of ch x)
+  where
+    go : (a : Answer) → (let r = cond (is_done a) (carried_out ch x) (refused ch a) in reply_of r.channel (told_of r) ≡ r)
+    go (Ok done) = refl
+    go (Err refusal) = refl

@@ -8,51 +8,44 @@
 ghost use Rattle.std.specs.Prelude.{◌≡◌};
 ghost use Rattle.channel.specs.Channel.{fresh, fresh_mode, initialised, refused, sound, zero};
 ghost use Rattle.channel.specs.Moved.{moved_by};
-ghost use Rattle.channel.specs.Told.{reply_of, unmoved};
+ghost use Rattle.channel.specs.Told.{reply_of};
 
 use answers::{Answer, Refusal};
 use config::{Config, PDU_MOST, PNC_MOST, Ticks, Times};
 use decision::Rule;
 use state::{Channel, Notes, Own, Reply, Started, Told};
-use states::{Mode, State, Traffic};
+use states::{Mode, Traffic};
 
 pub mod state;
 
 // ---- replies
 
-// The reply of a call that left this channel.
-pub fn reply_of(ch: Channel, told: Told) -> Reply
-    ensures { result ≡ reply_of ch told }
-{
-    Reply {
-        channel: ch,
-        answer: told.answer,
-        notes: told.notes,
-        sent: told.sent,
-    }
-}
-
-// What a call tells that is refused.
-pub fn unmoved(a: Answer) -> Told
-    ensures { result ≡ unmoved a }
-{
-    Told {
-        answer: a,
-        notes: Notes {
-            first: None,
-            second: None,
-            eira: false,
-            era: false,
-        },
-        sent: false,
-    }
-}
-
+// The same channel, with an answer.
 #[tactic(auto, unfolding(crate::specs::Channel::refused))]
 pub fn refused(ch: Channel, a: Answer) -> Reply
     ensures { result ≡ refused ch a }
 {
-    reply_of(ch, unmoved(a))
+    Reply {
+        channel: ch,
+        answer: a,
+        notes: Notes::default(),
+        sent: false,
+    }
+}
+
+// The reply of a call: the channel after it, and what it tells or its refusal.
+pub fn reply_of(ch: Channel, told: Result<Told, Refusal>) -> Reply
+    ensures { result ≡ reply_of ch told }
+{
+    match told {
+        Ok(told) => Reply {
+            channel: ch,
+            answer: Ok(()),
+            notes: told.notes,
+            sent: told.sent,
+        },
+        Err(refusal) => refused(ch, Err(refusal)),
+    }
 }
 
 // ---- carried out
@@ -60,7 +53,7 @@ pub fn refused(ch: Channel, a: Answer) -> Reply
 // Moves the channel by a rule, and tells its notes; ei and er say whether the vectors of EIRA and ERA changed.
 #[tactic(auto, unfolding(crate::specs::Moved::moved_by))]
 pub fn move_by(ch: &mut Channel, rule: Rule, again: bool, ei: bool, er: bool) -> Told
-    ensures moves { reply_of ch.new result ≡ moved_by ch.old rule again ei er }
+    ensures moves { reply_of ch.new (Ok result) ≡ moved_by ch.old rule again ei er }
     ensures keeps { (ch.new.own.config ≡ ch.old.own.config) × (ch.new.own.ticks ≡ ch.old.own.ticks) }
 {
     let t = ch.own.ticks;
@@ -74,7 +67,6 @@ pub fn move_by(ch: &mut Channel, rule: Rule, again: bool, ei: bool, er: bool) ->
     let first = notes::first_by(rule, before, after);
     let second = notes::second_by(rule, before, old);
     Told {
-        answer: Ok(()),
         notes: Notes {
             first,
             second,
@@ -90,7 +82,7 @@ pub fn moved(mut ch: Channel, rule: Rule, again: bool, ei: bool, er: bool) -> Re
     ensures { result ≡ moved_by ch rule again ei er }
 {
     let told = move_by(&mut ch, rule, again, ei, er);
-    reply_of(ch, told)
+    reply_of(ch, Ok(told))
 }
 
 // ---- initialising
@@ -99,16 +91,12 @@ fn fresh_mode() -> Mode
     ensures { result ≡ fresh_mode }
 {
     Mode {
-        state: State::BusSleep,
-        requested: false,
         sending: true,
-        filter: false,
-        nm: 0,
-        wait: 0,
-        repeat: 0,
+        ..Mode::default()
     }
 }
 
+// The channel of zeros. No `Channel::default()`: the check doesn't relate the default of its arrays to `zero`.
 #[tactic(auto, unfolding(crate::specs::Channel::zero))]
 fn zero() -> Channel
     ensures { result ≡ zero }
@@ -117,10 +105,7 @@ fn zero() -> Channel
         own: Own {
             config: Config::default(),
             ticks: Times::default(),
-            mode: Mode {
-                sending: false,
-                ..fresh_mode()
-            },
+            mode: Mode::default(),
             traffic: Traffic::default(),
             user: [0; Channel::BYTES],
             requests: [0; Channel::BYTES],

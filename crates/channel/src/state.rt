@@ -1,9 +1,13 @@
 // The channel's value and what its calls give.
-use answers::Answer;
+ghost use Rattle.std.specs.Prelude.{◌≡◌};
+ghost use Rattle.channel.specs.Told.{told_of};
+
+use answers::{Answer, Refusal};
 use config::{Config, PDU_MOST, PN_MOST, PNC_MOST, Ticks};
 use states::{Mode, Note, Traffic};
 
-// A channel without EIRA, whose timers are the only part that no rule of the channel reads.
+// A channel without EIRA, whose timers are the only part that no rule of the channel reads. Configuration and ticks stay two
+// values: a host hands over the one, and `rules::first_broken_by` judges it with any ticks.
 #[derive(Clone, Copy)]
 pub struct Own {
     pub config: Config,
@@ -22,7 +26,7 @@ pub struct Channel {
 }
 
 // The notes of a call in the order raised: a call raises at most two, then EI and ER close it.
-#[derive(Clone, Copy)]
+#[derive(Clone, Copy, Default)]
 pub struct Notes {
     pub first: Option<Note>,
     pub second: Option<Note>,
@@ -40,12 +44,24 @@ pub struct Reply {
     pub sent: bool,
 }
 
-// What a call tells besides the channel that it leaves.
-#[derive(Clone, Copy)]
+// What a call that is carried out tells, besides the channel that it leaves.
+#[derive(Clone, Copy, Default)]
 pub struct Told {
-    pub answer: Answer,
     pub notes: Notes,
     pub sent: bool,
+}
+
+impl Reply {
+    // What the call told, or its refusal.
+    pub fn told(self) -> Result<Told, Refusal>
+        ensures { result ≡ told_of self }
+    {
+        self.answer?;
+        Ok(Told {
+            notes: self.notes,
+            sent: self.sent,
+        })
+    }
 }
 
 // What initialising gives: the channel and the answer. Not a `Result`: where a configuration is refused, a channel of zeros

@@ -1,11 +1,12 @@
 -- Laws of tests: two tests of one fact are equal, and what a joined test says. Assumes nothing.
 use mathlib.Core.Path.{◌≡◌, refl}
 use mathlib.Core.Bool.{Bool, true, false, not, xor, beq, ◌&&◌, ◌||◌}
-use mathlib.Core.Logic.{◌⊎◌, inl, inr}
+use mathlib.Core.Logic.{◌⊎◌}
 use Prim.Native.Nat.{ℕ, ◌≤◌}
 use native.Mathlib.Omega.{arith}
 use lib.Dec.{leb, eqb}
 use borrow.Author.Tests.{leb-true, leb-false, eqb-true, eqb-false}
+use Rattle.std.proofs.lemmas.Bool.{and_parts}
 
 -- `≤` tested in two ways
 pub same_leb : (a b c d : ℕ) → (a ≤ b → c ≤ d) → (c ≤ d → a ≤ b) → leb a b ≡ leb c d
@@ -29,18 +30,14 @@ same_eqb a b c d to from = go (eqb a b) (eqb c d) refl refl
 
 -- the parts of a conjunction that holds
 pub and_left : (a b : Bool) → (a && b) ≡ true → a ≡ true
-and_left true b e = refl
-and_left false b e = e
+and_left a b e = (and_parts a b e).0
 
 pub and_right : (a b : Bool) → (a && b) ≡ true → b ≡ true
-and_right true b e = e
-and_right false true e = refl
-and_right false false e = e
+and_right a b e = (and_parts a b e).1
 
 -- one part of a disjunction that holds
 pub or_cases : (a b : Bool) → (a || b) ≡ true → (a ≡ true) ⊎ (b ≡ true)
-or_cases true b e = inl refl
-or_cases false b e = inr e
+or_cases a b e = Rattle.std.proofs.lemmas.Bool.or_cases a b e
 
 -- what `^` computes is the library's `xor`
 pub xor_is : (a b : Bool) → not (beq a b) ≡ xor a b

@@ -9,8 +9,8 @@ ghost use Rattle.command_names.specs.CommandNames.{alone, tick_of, with_bytes};
 
 use names::Name;
 
-// A call with its argument; bytes stand in front of a lent buffer, so many of them. A count and no slice, which would hold
-// that buffer's loan in each definition of a command, while `reading` speaks of the buffer itself.
+// A call with its argument; bytes stand in front of a lent buffer, so many of them. A count and no slice: a slice would keep the
+// buffer lent for as long as the command lives, while `reading` speaks of the buffer itself.
 #[derive(Clone, Copy)]
 pub enum Command {
     NetworkRequest,

@@ -12,7 +12,7 @@ ghost use Rattle.commands.specs.Commands.{argued, hex_count, reading, read_as};
 use command_names::Command;
 use names::Name;
 
-// The bytes of a text in hex; answers how many, if it is hex throughout.
+// The bytes of a text in hex; answers how many, if it is hex throughout: twice the pairs are the bytes.
 fn read_hex(a: &[u8], bytes: &mut [u8]) -> Option<usize>
     ensures count { result ≡ hex_count a.now }
     ensures stored { bytes.new ≡ sets bytes.old 0 (hex_pairs a.now) }
@@ -38,6 +38,7 @@ pub fn read(l: &[u8], bytes: &mut [u8]) -> Option<Command>
     if blocks::LINE_MOST < l.len() {
         return None;
     }
+    // By the place where the first field ends, as every reader of a line has it: a tab stands there, unless the line ends.
     let end = fields::field_end(l, 0);
     if end < l.len() {
         return argued(names::call(&l[..end]), &l[end + 1..], bytes);

@@ -2,7 +2,7 @@
 use Rattle.std.specs.Prelude.{ℕ, List, [], ◌∷◌}
 use Rattle.config.specs.declared.Times.{Times}
 
--- numbers in either unit
+-- both are numbers here; the code has 64 and 16 bits for them
 abbrev pub Milliseconds : Type 0
 Milliseconds = Times ℕ
 

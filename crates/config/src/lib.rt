@@ -22,7 +22,7 @@ pub const PNC_MOST: usize = 8 * PN_MOST;
 
 // ---- the fields
 
-// The times of a channel (AUTOSAR's parameter, document 01's letter).
+// The times of a channel (AUTOSAR's parameter, and its letter in README, "Configuration").
 #[derive(Clone, Copy, Default)]
 pub struct Times<T> {
     pub timeout: T, // CanNmTimeoutTime, T
@@ -84,12 +84,13 @@ pub struct Layout {
     pub cbv: u64,
 }
 
-// The position of a header field that is off. No `Option`: any number that a host hands over, from C too, has to reach the rules.
+// The position of a header field that is off. No `Option`: any number of a host, from C too, has to reach rule 7, which
+// `rules::first_broken_rule` judges, and 255 is the documented value of these public fields.
 pub const OFF: u64 = 255;
 
 // Partial networking: the PN range of `length` bytes (N) from byte `start` (F) on, and the filter mask with the
-// number of bytes that it was given. No `Option` of the rest, since a rule judges it where it is off, too; and no slice for the
-// mask: memory is fixed, and any number of bytes has to reach that rule.
+// number of bytes that it was given. No `Option` of the rest, since `pn_rules::pn_rule` judges it where it is off, too; and no
+// slice for the mask: memory is fixed, and any number of bytes has to reach that rule.
 #[derive(Clone, Copy, Default)]
 pub struct Partial {
     pub on: bool,
@@ -164,7 +165,7 @@ pub fn in_bounds(field: usize, value: u64) -> bool
 {
     BOUNDS
         .get(field)
-        .is_some_and(|b| b.0 <= value && value <= b.1)
+        .is_some_and(|b| (b.0..=b.1).contains(&value))
 }
 
 // ---- byte ranges of the PDU
@@ -173,7 +174,7 @@ pub fn in_bounds(field: usize, value: u64) -> bool
 fn bytes_of(position: u64) -> u64
     ensures { result ≡ bytes_of position }
 {
-    choice::pick(position == OFF, 0, 1)
+    u64::from(position != OFF)
 }
 
 // The length of the header, H.

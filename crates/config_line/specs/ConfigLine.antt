@@ -1,5 +1,5 @@
 -- What line 1 of a trace says: CFG, M, T, W, R, C, O, IN, IC, RS, passive, L, SNI, CBV, id. Assumes nothing.
-use Rattle.std.specs.Prelude.{ℕ, Bool, false, cond, ◌&&◌, ◌||◌, List, eqb, ltb, get_or, length, take, drop, replicate}
+use Rattle.std.specs.Prelude.{ℕ, Bool, false, cond, ◌&&◌, ◌||◌, List, eqb, ltb, get_or, length, take, drop, replicate, Option, Some}
 use Rattle.config.specs.Ranges.{off}
 use Rattle.config.specs.declared.Config.{Config}
 use Rattle.fields.specs.Numbers.{dash_number, tokens_of}
@@ -8,8 +8,8 @@ use Rattle.names.specs.declared.Name.TheVariants.{Cfg}
 use Rattle.settings.specs.Settings.{Setting, all_numbers, cfg_fields, is_flag, is_line, is_number, table_of}
 
 -- CFG among the names
-abbrev pub cfg_name : Name
-cfg_name = Cfg
+abbrev pub cfg_name : Option Name
+cfg_name = Some Cfg
 
 abbrev pub is_position : ℕ → Bool
 is_position x = ltb x 2 || eqb x dash_number

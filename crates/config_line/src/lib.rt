@@ -5,11 +5,11 @@
 // configuration (`rules`).
 #![tactic(auto)]
 
-ghost use Rattle.std.specs.Prelude.{◌≡◌, []};
+ghost use Rattle.std.specs.Prelude.{◌≡◌};
 ghost use Rattle.settings.specs.Settings.{given};
 ghost use Rattle.config_line.specs.ConfigLine.{config_of, config_reads, is_position, position_of, read_config};
 
-use config::{Config, Layout, PDU_MOST, Partial, Times};
+use config::{Config, Layout, Partial, Times};
 use names::Name;
 
 // The byte of a header field: 0, 1 or a dash.
@@ -26,6 +26,7 @@ fn position_of(x: u64) -> u64
     choice::pick(x == fields::DASH, config::OFF, x)
 }
 
+#[tactic(auto, unfolding(crate::specs::ConfigLine::config_reads))]
 fn config_reads(t: &[u64; settings::CFG_FIELDS]) -> bool
     ensures { result ≡ config_reads t.now }
 {
@@ -39,6 +40,7 @@ fn config_reads(t: &[u64; settings::CFG_FIELDS]) -> bool
 }
 
 // The configuration with PN off.
+#[tactic(auto, unfolding(crate::specs::ConfigLine::config_of))]
 fn config_of(t: &[u64; settings::CFG_FIELDS]) -> Config
     ensures { result ≡ config_of t.now }
 {
@@ -62,15 +64,17 @@ fn config_of(t: &[u64; settings::CFG_FIELDS]) -> Config
             sni: position_of(t[12]),
             cbv: position_of(t[13]),
         },
-        pn: Partial {
-            on: false,
-            start: 0,
-            length: 0,
-            awake: false,
-            masked: 0,
-            mask: [0; PDU_MOST],
-        },
+        pn: Partial::default(),
     }
+}
+
+// The configuration that a line's fields give, whether the line can be read or not.
+pub fn fields_config(l: &[u8]) -> Config
+    ensures { result ≡ (read_config l.now).config }
+{
+    let mut t = [0u64; settings::CFG_FIELDS];
+    fields::tokens(l, &mut t);
+    config_of(&t)
 }
 
 // The configuration that line 1 gives.
@@ -79,16 +83,9 @@ pub fn read_config(l: &[u8]) -> Option<Config>
 {
     let mut t = [0u64; settings::CFG_FIELDS];
     let n = fields::tokens(l, &mut t);
-    if settings::is_line(l, Name::Cfg, settings::CFG_FIELDS, n) & config_reads(&t) {
+    if settings::is_line(l, Some(Name::Cfg), settings::CFG_FIELDS, n) & config_reads(&t) {
         Some(config_of(&t))
     } else {
         None
     }
-}
-
-// The configuration that stands in a run before line 1: all of it 0, and PN off.
-pub fn blank() -> Config
-    ensures { result ≡ (read_config []).config }
-{
-    config_of(&[0; settings::CFG_FIELDS])
 }

@@ -27,8 +27,8 @@ pub fn holding(phase: Phase, lines: u64, c: Config) -> Run
     ensures { result ≡ holding phase lines c }
 {
     Run {
-        phase: phase,
-        lines: lines,
+        phase,
+        lines,
         channel: Channel::fresh(c, time_rules::ticks_for(c)),
     }
 }

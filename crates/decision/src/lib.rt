@@ -10,7 +10,8 @@ ghost use Rattle.decision.specs.Decision.{is_not_here, rule_at, rule_of};
 
 use states::State;
 
-// The calls by their number: no enum, since the decision is over state and call numbers, each case naming one rule.
+// The calls by their number. No enum: the decision is one over the numbers of state and call, each case naming one rule, by
+// `decision.specs.Decision.rule_of`.
 pub const NETWORK_REQUEST: u8 = 0;
 
 pub const NETWORK_RELEASE: u8 = 1;

@@ -1,7 +1,7 @@
 // A call that a line of a trace asks for, carried out on a whole channel.
 //
 // Promises: what `replied` gives for the call, and every byte of the lent frame. Leaves to others: reading the line
-// (`commands`), a channel in parts (`dispatch_in_place`), and printing the reply (`replay`).
+// (`commands`), a channel that is kept (`dispatch_in_place`), and printing the reply (`replay`).
 #![tactic(auto)]
 
 ghost use Rattle.std.specs.Prelude.{◌≡◌, length};

@@ -2,7 +2,7 @@
 //
 // Promises: what each field reads as, for any bytes; one that cannot be read has a number of its own. A buffer that
 // is too short takes what it has room for, and the answer still counts all. Leaves to others: where a line begins
-// (`text`), fields that are names (`names`) or bytes (`hex`), and which fields a line must have.
+// (`text`), fields that are names (`names`) or bytes (`hex_bytes`), and which fields a line must have.
 #![tactic(auto)]
 
 ghost use Rattle.std.specs.Prelude.{◌≡◌, ◌+◌, ◌≤◌, length, drop};
@@ -18,7 +18,8 @@ pub const TAB: u8 = b'\t';
 const DIGITS_MOST: usize = 10;
 
 // What a field reads as that is a single '-', and what one reads as that is neither that nor a number. No number of
-// ten digits is so large. Numbers, since `config_in` of `trace_claims` gives a configuration for any fields, these too.
+// ten digits is so large. They are numbers, since `config_in` (`trace_claims`) has a configuration for every table of numbers,
+// with these in it too.
 pub const DASH: u64 = 10000000000;
 
 pub const UNREADABLE: u64 = 10000000001;
@@ -41,7 +42,7 @@ fn digits(s: &[u8]) -> Option<u64>
 {
     let mut n: u64 = 0;
     for &d in s {
-        if d < b'0' || b'9' < d {
+        if !d.is_ascii_digit() {
             return None;
         }
         n = n * 10 + u64::from(d - b'0');
@@ -53,7 +54,7 @@ fn digits(s: &[u8]) -> Option<u64>
 pub fn decimal(s: &[u8]) -> Option<u64>
     ensures { result ≡ decimal_of s.now }
 {
-    if s.len() == 0 || DIGITS_MOST < s.len() {
+    if s.is_empty() || DIGITS_MOST < s.len() {
         return None;
     }
     if 1 < s.len() && s[0] == b'0' {
@@ -76,6 +77,7 @@ pub fn token(f: &[u8]) -> u64
 pub fn tokens(line: &[u8], out: &mut [u64]) -> usize
     ensures { filled result out.new ≡ fill out.old (tokens_of line.now) }
 {
+    // Counted by hand, since the count is the answer.
     let mut k = 0;
     for field in line.split(|b| *b == TAB) {
         slices::put(out, k, token(field));

@@ -1,7 +1,7 @@
 // The partial-network filter: whether a PDU with this control bit vector and these PN bytes is kept.
 //
 // Promises: each function is a definition of specs/, for any bytes and any mask; PN bytes and a mask of unequal lengths
-// are refused. Leaves to others: whether the filter is on, and where a PDU has these bytes (`frames`).
+// are refused. Leaves to others: whether the filter is on, and where a PDU has these bytes (`heard`).
 #![tactic(auto)]
 
 ghost use Rattle.std.specs.Prelude.{◌≡◌};
@@ -42,13 +42,9 @@ pub fn answer(v: Result<bool, Refusal>) -> Answer
     answers::answer_to(v)
 }
 
-// The value beside it: 1 where the PDU is kept. A number, since the C function `cannm_pn_filter` gives it, 0 for a refusal.
+// The value beside it: 1 where the PDU is kept. A number, by docs/PROMISES.md, `value`: `cannm_pn_filter` gives it to C hosts.
 pub fn value(v: Result<bool, Refusal>) -> u8
     ensures { result ≡ verdict_value v }
 {
-    match v {
-        Ok(true) => 1,
-        Ok(false) => 0,
-        Err(_) => 0,
-    }
+    u8::from(v.unwrap_or(false))
 }

@@ -4,27 +4,23 @@
 // (`layout`), when a frame is sent (`sending`), and what is received (`heard`).
 #![tactic(auto)]
 
-ghost use Rattle.std.specs.Prelude.{◌≡◌, cond, ◌≤◌};
-ghost use Rattle.vectors.specs.Vectors.{vectors_differ};
+ghost use Rattle.std.specs.Prelude.{◌≡◌};
+ghost use Rattle.vectors.specs.Vectors.{Changes};
 ghost use Rattle.frames.specs.Frames.{cbv_sent, framed, sent_loaded};
 
 use config::{Config, PDU_MOST, PNC_MOST};
+use layout::PduFields;
 use states::Traffic;
 
+#[tactic(auto, unfolding(crate::specs::Frames::cbv_sent))]
 fn cbv_sent(on: bool, x: Traffic) -> u8
     ensures { result ≡ cbv_sent on x }
 {
-    bit(x.repeating, 1) + bit(x.waking, 16) + bit(on, 64)
-}
-
-// A bit by its weight. No `u8::from(set) * weight`: a product is no plainer than the choice.
-fn bit(set: bool, weight: u8) -> u8
-    ensures { (result ≡ cond set weight 0) × (result ≤ weight) }
-{
-    if set { weight } else { 0 }
+    u8::from(x.repeating) + (u8::from(x.waking) << 4) + (u8::from(on) << 6)
 }
 
 // The channel's fields in a lent frame.
+#[tactic(auto, unfolding(crate::specs::Frames::framed))]
 pub fn send<'a>(
     c: Config,
     x: Traffic,
@@ -36,31 +32,30 @@ pub fn send<'a>(
 {
     let pn = slices::part(requests, 0, c.pn.length as usize);
     let data = slices::part(user, 0, config::user_length(c) as usize);
-    layout::write_fields(
-        c,
-        (c.node % 256) as u8,
-        cbv_sent(c.pn.on, x),
+    let fields = PduFields {
+        sni: (c.node % 256) as u8,
+        cbv: cbv_sent(c.pn.on, x),
         pn,
-        data,
-        frame,
-    );
+        user: data,
+    };
+    fields.write(c, frame);
 }
 
 // The timers that a sent frame loads, after a tick has counted them down. Answers whether the vector changed by both.
+#[tactic(auto, unfolding(crate::specs::Frames::sent_loaded))]
 pub fn load_sent(
     c: Config,
     reset: u16,
     requests: &[u8; PDU_MOST],
     timers: &mut [u16; PNC_MOST],
 ) -> bool
-    ensures { (timers.new ≡ sent_loaded c reset requests.now timers.old) × (result ≡ vectors_differ timers.old (sent_loaded c reset requests.now timers.old)) }
+    ensures { Changes timers.old (sent_loaded c reset requests.now timers.old) timers.new result }
 {
     let before = *timers;
-    let mask = c.pn.mask;
     timers::count_down(timers);
     timers::load_where(
         slices::part(requests, 0, c.pn.length as usize),
-        &mask,
+        &c.pn.mask,
         reset,
         timers,
     );

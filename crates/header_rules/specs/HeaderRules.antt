@@ -29,7 +29,7 @@ rule7 l =
 
 -- the rule n where it is broken, else what the later rules say
 abbrev pub unless : Bool → BrokenRule → Result ⊤ BrokenRule → Result ⊤ BrokenRule
-unless kept n later = cond kept later (Err n)
+unless kept rule later = cond kept later (Err rule)
 
 -- the first broken rule of the header alone: its length and positions
 unfoldable pub first_broken_of_header : Layout → Result ⊤ BrokenRule

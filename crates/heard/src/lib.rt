@@ -5,22 +5,23 @@
 #![tactic(auto)]
 
 ghost use Rattle.std.specs.Prelude.{◌≡◌};
-ghost use Rattle.vectors.specs.Vectors.{vectors_differ};
+ghost use Rattle.vectors.specs.Vectors.{Changes};
 ghost use Rattle.heard.specs.Heard.{accepted, asks_repeat, loaded_by};
 
 use config::{Config, PNC_MOST};
 
 // Is it accepted, with the filter on or off?
+#[tactic(auto, unfolding(crate::specs::Heard::accepted))]
 pub fn accepted(c: Config, filter: bool, pdu: &[u8]) -> bool
     ensures { result ≡ accepted c filter pdu.now }
 {
-    let mask = c.pn.mask;
     let pn = slices::part(pdu, c.pn.start as usize, c.pn.length as usize);
     let cbv = layout::byte_at(pdu, c.layout.cbv);
-    !filter | filter::keeps(c.pn.awake, cbv as u32, pn, &mask)
+    !filter | filter::keeps(c.pn.awake, cbv as u32, pn, &c.pn.mask)
 }
 
 // Does it ask for Repeat Message?
+#[tactic(auto, unfolding(crate::specs::Heard::asks_repeat))]
 pub fn asks_repeat(c: Config, pdu: &[u8]) -> bool
     ensures { result ≡ asks_repeat c pdu.now }
 {
@@ -29,12 +30,11 @@ pub fn asks_repeat(c: Config, pdu: &[u8]) -> bool
 
 // Its PN bits load a table. Answers whether the vector changed by it.
 pub fn load_heard(c: Config, reset: u16, pdu: &[u8], timers: &mut [u16; PNC_MOST]) -> bool
-    ensures { (timers.new ≡ loaded_by c reset pdu.now timers.old) × (result ≡ vectors_differ timers.old (loaded_by c reset pdu.now timers.old)) }
+    ensures { Changes timers.old (loaded_by c reset pdu.now timers.old) timers.new result }
 {
-    let mask = c.pn.mask;
     if filter::informs(layout::byte_at(pdu, c.layout.cbv) as u32) {
         let pn = slices::part(pdu, c.pn.start as usize, c.pn.length as usize);
-        return timers::load_where(pn, &mask, reset, timers);
+        return timers::load_where(pn, &c.pn.mask, reset, timers);
     }
     false
 }

@@ -1,37 +1,9 @@
 -- Laws of hex pairs. Assumes nothing.
-use Rattle.std.proofs.Common.{◌≡◌, ℕ, suc, ◌+◌, ◌*◌, ◌%◌, ◌<◌, ◌≤◌, Bool, true, false, cond, ◌&&◌, ltb, leb, List, [], ◌∷◌, length, get_or, drop, refl, arith, length-drop, ltb-false, ltb-true, le-ltb, lt-ltb, le-leb, leb-true}
+use Rattle.std.proofs.Common.{◌≡◌, ℕ, suc, ◌+◌, ◌*◌, ◌<◌, ◌≤◌, Bool, true, false, cond, ltb, List, [], ◌∷◌, length, get_or, drop, refl, arith, length-drop, le-ltb, lt-ltb}
 use Rattle.std.proofs.Common.{take, ◌-◌}
 use Rattle.std.proofs.lemmas.List.{take_all}
 use mathlib.Core.Logic.{◌⊎◌, inl, inr}
 use Rattle.hex_bytes.specs.Hex.{hex_value, hex_pairs}
-
--- ---- the value of a digit
-
-inside : (a b d : ℕ) → a ≤ d → d ≤ b → (leb a d && leb d b) ≡ true
-inside a b d h k = rw (le-leb a d h, le-leb d b k)
-
-outside : (a b d : ℕ) → (a ≤ d → d ≤ b → ⊥) → (leb a d && leb d b) ≡ false
-outside a b d n = by_test (leb a d) (leb d b) refl refl
-  where
-    by_test : (t u : Bool) → leb a d ≡ t → leb d b ≡ u → (t && u) ≡ false
-    by_test true true p q = absurd (n (leb-true a d p) (leb-true d b q))
-    by_test true false p q = refl
-    by_test false u p q = refl
-
--- by what is left of the byte above '0', above 'A' and above ten less than 'A', which wraps where it is below
-pub value_by : (d x y z : ℕ) → d < 256 → x < 256 → y < 256 → z < 256 → (x + 48) % 256 ≡ d → (y + 65) % 256 ≡ d → (z + 55) % 256 ≡ d
-    → cond (ltb x 10) x (cond (ltb y 6) z 16) ≡ hex_value d
-value_by d x y z hd hx hy hz e f g = by_test (ltb x 10) (ltb y 6) refl refl
-  where
-    by_test : (t u : Bool) → ltb x 10 ≡ t → ltb y 6 ≡ u → cond t x (cond u z 16) ≡ hex_value d
-    by_test true u p q = let l = ltb-true x 10 p in rw (inside 48 57 d (omega arith) (omega arith)) (omega arith)
-    by_test false true p q =
-        let l = ltb-true y 6 q in
-        rw (outside 48 57 d (λ a b. omega arith), inside 65 70 d (omega arith) (omega arith)) (omega arith)
-    by_test false false p q =
-        let l = ltb-false x 10 p in
-        let m = ltb-false y 6 q in
-        rw (outside 48 57 d (λ a b. omega arith), outside 65 70 d (λ a b. omega arith))
 
 -- ---- the pairs of a text
 

@@ -9,15 +9,15 @@ ghost use Rattle.std.specs.Prelude.{◌≡◌};
 ghost use Rattle.text.specs.Filled.{filled, fill};
 ghost use Rattle.hex_bytes.specs.Hex.{hex_value, hex_pairs};
 
-// The value of a hex digit in upper case, 16 for any other byte. It has no branch, since no processor could predict
-// which digit comes.
+// The value of a hex digit in upper case. 16 for any other byte and no `Option`, as `hex_value` of specs/Hex has it.
 fn hex_value(d: u8) -> u8
     ensures { result ≡ hex_value d }
 {
-    let x = std::num::wrapping_sub_u8(d, b'0');
-    let y = std::num::wrapping_sub_u8(d, b'A');
-    let z = std::num::wrapping_sub_u8(d, b'A' - 10);
-    choice::pick(x < 10, x, choice::pick(y < 6, z, 16))
+    match d {
+        b'0'..=b'9' => d - b'0',
+        b'A'..=b'F' => d - b'A' + 10,
+        _ => 16,
+    }
 }
 
 // The bytes of the leading hex pairs, in front of the buffer; answers how many pairs there are. A text is hex
@@ -25,6 +25,7 @@ fn hex_value(d: u8) -> u8
 pub fn hex_pairs(s: &[u8], out: &mut [u8]) -> usize
     ensures { filled result out.new ≡ fill out.old (hex_pairs s.now) }
 {
+    // Counted by hand, since the count is the answer.
     let mut n = 0;
     let mut rest = s;
     while let [h, l, behind @ ..] = rest {

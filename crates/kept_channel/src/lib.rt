@@ -1,7 +1,7 @@
 // A channel that a host keeps from call to call, with what its configuration comes to.
 //
-// Promises: in clauses it is the channel, and `is_sound` judges this channel. Leaves to others: the calls on it (`tick`,
-// `reception`, `dispatch_in_place`).
+// Promises: a clause that names a `KeptChannel` speaks of its channel; `is_sound` says whether that is sound. Leaves to others: the
+// calls on it (`tick`, `reception`, `dispatch_in_place`).
 #![tactic(auto)]
 
 ghost use Rattle.std.specs.Prelude.{◌≡◌};
@@ -41,7 +41,7 @@ impl KeptChannel {
     }
 
     // Is its state sound?
-    #[tactic(auto, using(soundness::proofs::Alike::sound_alike), unfolding(channel::specs::Channel::sound))]
+    #[tactic(auto, using(soundness::proofs::Alike::prepared_alike), unfolding(channel::specs::Channel::sound))]
     pub fn is_sound(&self) -> bool
         ensures { result ≡ sound self.now }
     {

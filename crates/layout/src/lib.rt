@@ -7,7 +7,7 @@
 #![tactic(auto)]
 
 ghost use Rattle.std.specs.Prelude.{◌≡◌};
-ghost use Rattle.layout.specs.Fields.{fields};
+ghost use Rattle.layout.specs.Fields.{lent};
 ghost use Rattle.layout.specs.Layout.{byte_at, frame_of, of_lengths, put_byte};
 
 use config::Config;
@@ -36,17 +36,30 @@ pub fn byte_at(pdu: &[u8], position: u64) -> u8
 
 // ---- all fields
 
-// The fields in a frame: header fields in their bytes, PN bytes and user data in their ranges.
-pub fn write_fields(c: Config, sni: u8, cbv: u8, pn: &[u8], user: &[u8], frame: &mut [u8])
-    ensures { frame.new ≡ frame_of c (fields sni cbv pn.now user.now) frame.old }
-{
-    put_byte(frame, c.layout.sni, sni);
-    put_byte(frame, c.layout.cbv, cbv);
-    slices::put_part(frame, c.pn.start as usize, pn);
-    slices::put_part(frame, config::user_start(c) as usize, user);
+// The fields of a PDU: source node id, control bit vector, and the lent PN bytes and user data.
+#[derive(Clone, Copy)]
+pub struct PduFields<'a> {
+    pub sni: u8,
+    pub cbv: u8,
+    pub pn: &'a [u8],
+    pub user: &'a [u8],
+}
+
+impl PduFields<'_> {
+    // The fields in a frame: header fields in their bytes, PN bytes and user data in their ranges.
+    #[tactic(auto, unfolding(crate::specs::Layout::frame_of))]
+    pub fn write(self, c: Config, frame: &mut [u8])
+        ensures { frame.new ≡ frame_of c (lent self.entry) frame.old }
+    {
+        put_byte(frame, c.layout.sni, self.sni);
+        put_byte(frame, c.layout.cbv, self.cbv);
+        slices::put_part(frame, c.pn.start as usize, self.pn);
+        slices::put_part(frame, config::user_start(c) as usize, self.user);
+    }
 }
 
 // Are so many PN bytes and user bytes of the configured lengths?
+#[tactic(auto, unfolding(crate::specs::Layout::of_lengths))]
 pub fn of_lengths(c: Config, pn: usize, user: usize) -> bool
     ensures { result ≡ of_lengths c pn user }
 {

@@ -11,7 +11,8 @@ use config::Ticks;
 use decision::Rule;
 use states::{Mode, State};
 
-// The mode after a rule; `again` says that a PDU asks for Repeat Message.
+// The mode after a rule; `again` says that a PDU asks for Repeat Message. A `match`: each step takes other
+// arguments, and a table of functions would have to be handed out. Ticks and mode stay two arguments, as setup and traffic do.
 #[tactic(auto, unfolding(crate::specs::ModeTransitions::mode_by))]
 pub fn mode_by(rule: Rule, again: bool, t: Ticks, m: Mode) -> Mode
     ensures { result ≡ mode_by rule again t m }

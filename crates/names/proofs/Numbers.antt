@@ -9,7 +9,7 @@ use Rattle.names.specs.declared.Name.{Name}
 use Rattle.names.specs.declared.Name.TheVariants.{Req, Rel, Pas, Rmr, Dis, Ena, Ok, Bad, Pna, Rx, Ud, Pnr, T, Cfg, Pn}
 use Rattle.names.specs.contracts.Name.{the_type}
 use Rattle.names.specs.contracts.NamePartialEq.TheImpl.{eq-value}
-use Rattle.names.specs.Names.{is_name, name_at, number_of}
+use Rattle.names.specs.Names.{is_name, is_same, name_at, number_of}
 
 -- a name's number is its place in the enum
 placed : (n : Name) → tag_of the_type n ≡ number_of n
@@ -53,3 +53,8 @@ pub same_name : (o : Option Name) (m : Name) → option_eq eq-value.it o (Some m
 same_name None m = refl
 same_name (Some n) m =
     ap (λ (k : ℕ). eqb k (tag_of the_type m)) (placed n) ∙ ap (λ (k : ℕ). eqb (number_of n) k) (placed m)
+
+pub same_names : (o p : Option Name) → option_eq eq-value.it o p ≡ is_same o p
+same_names None None = refl
+same_names (Some n) None = refl
+same_names o (Some m) = same_name o m

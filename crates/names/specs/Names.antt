@@ -1,5 +1,6 @@
 -- The names of a trace's lines. Assumes nothing.
 use Rattle.std.specs.Prelude.{ℕ, zero, suc, ◌+◌, ◌*◌, cond, Bool, false, List, [], ◌∷◌, map, eqb, get_or, Option, Some, None}
+use Rattle.std.specs.Option.{is_none}
 use Rattle.names.specs.declared.Name.{Name}
 use Rattle.names.specs.declared.Name.TheVariants.{Req, Rel, Pas, Rmr, Dis, Ena, Ok, Bad, Pna, Rx, Ud, Pnr, T, Cfg, Pn}
 
@@ -61,3 +62,8 @@ number_of Pn = 14
 abbrev pub is_name : Option Name → Name → Bool
 is_name (Some n) m = eqb (number_of n) (number_of m)
 is_name None m = false
+
+-- are both that name, or both none?
+abbrev pub is_same : Option Name → Option Name → Bool
+is_same o None = is_none o
+is_same o (Some m) = is_name o m

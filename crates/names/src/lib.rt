@@ -3,14 +3,14 @@
 // Promises: the name that any bytes spell, or that they spell none; a name that is found is that one (proofs/Packing).
 // Leaves to others: what a line of that name asks (`commands`, `config_line`, `pn_line`).
 //
-// The bytes are packed into one number, so that one switch tells all names apart: in a match on the bytes themselves each of
-// 24 ways to no name is a goal of its own.
+// The bytes are packed into one number, so that one switch tells all names apart: of a match on the bytes themselves 39 goals
+// stayed open, one for each name and 24 for the ways to none.
 #![tactic(auto)]
 
 ghost use Rattle.std.specs.Prelude.{◌≡◌, ◌==◌, ◌+◌, ◌*◌};
 ghost use Rattle.names.specs.Names.{call_of, name_at, packed};
 
-// The names, each as it is spelled, in the order of their numbers.
+// The names, in the order of their numbers (`number_of`, specs/Names).
 #[derive(Clone, Copy, PartialEq, Eq)]
 pub enum Name {
     Req,

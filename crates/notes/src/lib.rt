@@ -24,7 +24,7 @@ fn timed_out(m: Mode) -> Option<Note>
 fn remote_sleeps(m: Mode, x: Traffic) -> Option<Note>
     ensures { result ≡ remote_sleeps m x }
 {
-    (m.sending & (0 < x.remote) & (x.remote <= 1)).then_some(Note::RemoteSleepIndication)
+    (m.sending & (x.remote == 1)).then_some(Note::RemoteSleepIndication)
 }
 
 // The first note, with the mode before and after the rule.

@@ -1,7 +1,7 @@
 // The text of the notes that a line prints: their words in order, or a dash.
 //
 // Promises: the text of specs/NotesText is written by the writer, and nothing else. Leaves to others: which notes there are
-// (`channel`), the line around them (`report`), and that the buffer has room.
+// (`channel`), the line around them (`report`), and that the buffer has room. No `Display`, for the reason at `print::Writer`.
 #![tactic(auto)]
 
 ghost use Rattle.std.specs.Prelude.{◌≡◌, [], ◌+◌, cond, eqb, length};

@@ -27,6 +27,10 @@ composing c f frame =
     (composed (Err Length) frame))
     (composed (ruled (first_broken c)) frame)
 
+-- the header fields of a PDU
+abbrev pub header_of : Layout → List ℕ → Header
+header_of l pdu = record { sni = byte_at l.sni pdu; cbv = byte_at l.cbv pdu }
+
 -- Reading: the answer, the fields, and the lent PN and user bytes in them. A refusal reads 0 and leaves the bytes.
 pub record Taken : Type 0 where
   pub answer : Answer

@@ -6,36 +6,47 @@
 #![tactic(auto)]
 
 ghost use Rattle.std.specs.Prelude.{◌≡◌, []};
-ghost use Rattle.layout.specs.Fields.{fields};
-ghost use Rattle.pdu.specs.Pdu.{composed, composing, header_reading, reading, taken_by};
+ghost use Rattle.layout.specs.Fields.{lent};
+ghost use Rattle.pdu.specs.Pdu.{composed, composing, header_of, header_reading, reading, taken_by};
 
 use answers::{Answer, Refusal};
 use config::{Config, Layout};
+use layout::PduFields;
 
 // ---- composing
 
 // A PDU composed from its fields, in the first bytes of the frame.
 #[tactic(auto, unfolding(crate::specs::Pdu::composing))]
-pub fn compose(c: Config, sni: u8, cbv: u8, pn: &[u8], user: &[u8], frame: &mut [u8]) -> Answer
-    ensures { composed result frame.new ≡ composing c (fields sni cbv pn.now user.now) frame.old }
+pub fn compose(c: Config, fields: PduFields, frame: &mut [u8]) -> Answer
+    ensures { composed result frame.new ≡ composing c (lent fields.entry) frame.old }
 {
     rules::first_broken_rule(c)?;
-    let fits = layout::of_lengths(c, pn.len(), user.len())
+    let fits = layout::of_lengths(c, fields.pn.len(), fields.user.len())
         & (c.layout.length <= frame.len() as u64);
     if !fits {
         return Err(Refusal::Length);
     }
-    layout::write_fields(c, sni, cbv, pn, user, frame);
+    fields.write(c, frame);
     Ok(())
 }
 
 // ---- reading
 
 // The header fields of a PDU; one that is off reads 0.
-#[derive(Clone, Copy, PartialEq, Eq)]
+#[derive(Clone, Copy, PartialEq, Eq, Default)]
 pub struct Header {
     pub sni: u8,
     pub cbv: u8,
+}
+
+// Those of a PDU in its layout.
+fn header_of(l: Layout, pdu: &[u8]) -> Header
+    ensures { result ≡ header_of l pdu.now }
+{
+    Header {
+        sni: layout::byte_at(pdu, l.sni),
+        cbv: layout::byte_at(pdu, l.cbv),
+    }
 }
 
 // The fields of a PDU: PN bytes and user data go into lent bytes.
@@ -50,10 +61,7 @@ pub fn read(c: Config, pdu: &[u8], pn: &mut [u8], user: &mut [u8]) -> Result<Hea
     }
     slices::take_part(pdu, c.pn.start as usize, pn);
     slices::take_part(pdu, config::user_start(c) as usize, user);
-    Ok(Header {
-        sni: layout::byte_at(pdu, c.layout.sni),
-        cbv: layout::byte_at(pdu, c.layout.cbv),
-    })
+    Ok(header_of(c.layout, pdu))
 }
 
 // The header fields alone, of a PDU whose length and positions are given.
@@ -65,8 +73,5 @@ pub fn read_header(l: Layout, pdu: &[u8]) -> Result<Header, Refusal>
     if pdu.len() as u64 != l.length {
         return Err(Refusal::Length);
     }
-    Ok(Header {
-        sni: layout::byte_at(pdu, l.sni),
-        cbv: layout::byte_at(pdu, l.cbv),
-    })
+    Ok(header_of(l, pdu))
 }

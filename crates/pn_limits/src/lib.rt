@@ -25,10 +25,8 @@ fn put_where(mask: &[u8], reset: u16, limits: &mut [u16])
 fn filled_mask(n: u64, mask: &[u8; PDU_MOST]) -> [u8; PDU_MOST]
     ensures { result ≡ filled_mask n mask.now }
 {
-    let mut filled = *mask;
-    for (k, byte) in filled.iter_mut().enumerate() {
-        *byte = choice::pick((k as u64) < n, *byte, 0);
-    }
+    let mut filled = [0; PDU_MOST];
+    slices::copy(slices::part(mask, 0, n as usize), &mut filled);
     filled
 }
 
@@ -36,9 +34,21 @@ fn filled_mask(n: u64, mask: &[u8; PDU_MOST]) -> [u8; PDU_MOST]
 pub fn put_limits(c: Config, t: Ticks, limits: &mut [u16; PNC_MOST])
     ensures { limits.new ≡ limits_of (take c.pn.length c.pn.mask) t.reset limits.old }
 {
-    let mask = c.pn.mask;
-    let filled = filled_mask(c.pn.length, &mask);
+    let filled = filled_mask(c.pn.length, &c.pn.mask);
     put_where(&filled, t.reset, limits);
+}
+
+// Is each timer of a table at most its limit? By place, and of all of them: `all` would stop at the first that is not, and a loop
+// that stops is no vector code.
+fn under(limits: &[u16], table: &[u16]) -> bool
+    requires { length table.now ≤ length limits.now }
+    ensures { result ≡ all_under limits.now table.now }
+{
+    let mut ok = true;
+    for (i, t) in table.iter().enumerate() {
+        ok &= *t <= limits[i];
+    }
+    ok
 }
 
 // Is each timer of both tables at most its limit?
@@ -46,9 +56,5 @@ pub fn pair_under<'a>(limits: &'a [u16], a: &'a [u16], b: &'a [u16]) -> bool
     requires { (length a.now ≤ length limits.now) × (length b.now ≡ length a.now) }
     ensures { result ≡ all_under limits.now a.now && all_under limits.now b.now }
 {
-    let mut ok = true;
-    for (i, t) in a.iter().enumerate() {
-        ok &= (*t <= limits[i]) & (b[i] <= limits[i]);
-    }
-    ok
+    under(limits, a) & under(limits, b)
 }

@@ -1,5 +1,5 @@
 -- What the PN line of a trace says: PN, F, N, P, keep-awake, mask. Assumes nothing.
-use Rattle.std.specs.Prelude.{ℕ, ◌+◌, ◌*◌, Bool, true, ◌&&◌, List, eqb, ltb, get_or, length, take, drop, replicate}
+use Rattle.std.specs.Prelude.{ℕ, ◌+◌, ◌*◌, Bool, true, ◌&&◌, List, eqb, ltb, get_or, length, take, drop, replicate, Option, Some}
 use Rattle.std.proofs.lemmas.List.Edits.{sets}
 use Rattle.text.specs.Lines.{until}
 use Rattle.config.specs.declared.Config.{Config}
@@ -8,18 +8,18 @@ use Rattle.fields.specs.Numbers.{tokens_of}
 use Rattle.hex_bytes.specs.Hex.{hex_pairs}
 use Rattle.names.specs.declared.Name.{Name}
 use Rattle.names.specs.declared.Name.TheVariants.{Pn}
-use Rattle.names.specs.Names.{is_name}
+use Rattle.names.specs.Names.{is_same}
 use Rattle.settings.specs.Settings.{Setting, all_numbers, is_flag, is_line, name_of, table_of}
 
 -- PN among the names, and how many fields the line has
-abbrev pub pn_name : Name
-pn_name = Pn
+abbrev pub pn_name : Option Name
+pn_name = Some Pn
 
 abbrev pub pn_fields : ℕ
 pn_fields = 6
 
 unfoldable pub is_partial : List ℕ → Bool
-is_partial l = is_name (name_of l) pn_name
+is_partial l = is_same (name_of l) pn_name
 
 -- what stands behind the first tab; nothing where there is none
 unfoldable pub behind_tab : List ℕ → List ℕ

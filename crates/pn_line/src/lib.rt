@@ -39,25 +39,23 @@ fn behind_tab<'a>(l: &'a [u8]) -> &'a [u8]
 }
 
 // What stands behind the fifth tab.
+#[tactic(auto, unfolding(crate::specs::PnLine::mask_text))]
 fn mask_text<'a>(l: &'a [u8]) -> &'a [u8]
     ensures { result.now ≡ mask_text l.now }
 {
     behind_tab(behind_tab(behind_tab(behind_tab(behind_tab(l)))))
 }
 
-// Do so many pairs make a mask of so many bytes: all of them, and at least one pair?
+// Do so many pairs make a mask of so many bytes: at least one pair, and twice the pairs are the bytes? No product, which could
+// overflow.
+#[tactic(auto, unfolding(crate::specs::PnLine::is_mask))]
 fn is_mask(pairs: usize, bytes: usize) -> bool
     ensures { result ≡ is_mask pairs bytes }
 {
-    if pairs == 0 {
-        return false;
-    }
-    if pairs <= bytes {
-        return bytes - pairs == pairs;
-    }
-    false
+    pairs != 0 && pairs <= bytes && bytes - pairs == pairs
 }
 
+#[tactic(auto, unfolding(crate::specs::PnLine::partial_reads))]
 fn partial_reads(t: &[u64; settings::CFG_FIELDS]) -> bool
     ensures { result ≡ partial_reads t.now }
 {
@@ -66,6 +64,7 @@ fn partial_reads(t: &[u64; settings::CFG_FIELDS]) -> bool
 }
 
 // The configuration with PN on, and the mask of so many bytes.
+#[tactic(auto, unfolding(crate::specs::PnLine::with_partial))]
 fn with_partial(
     c: Config,
     t: &[u64; settings::CFG_FIELDS],
@@ -91,6 +90,17 @@ fn with_partial(
     }
 }
 
+// The configuration that a line's fields give behind that of line 1, whether the line can be read or not.
+pub fn fields_partial(c: Config, l: &[u8]) -> Config
+    ensures { result ≡ (read_partial c l.now).config }
+{
+    let mut t = [0u64; settings::CFG_FIELDS];
+    fields::tokens(l, &mut t);
+    let mut mask = [0u8; PDU_MOST];
+    let pairs = hex_bytes::hex_pairs(mask_text(l), &mut mask);
+    with_partial(c, &t, pairs, &mask)
+}
+
 // The configuration that a PN line gives, behind that of line 1.
 pub fn read_partial(c: Config, l: &[u8]) -> Option<Config>
     ensures { result ≡ given (read_partial c l.now) }
@@ -100,7 +110,7 @@ pub fn read_partial(c: Config, l: &[u8]) -> Option<Config>
     let mut mask = [0u8; PDU_MOST];
     let hex = mask_text(l);
     let pairs = hex_bytes::hex_pairs(hex, &mut mask);
-    if settings::is_line(l, Name::Pn, PN_FIELDS, n)
+    if settings::is_line(l, Some(Name::Pn), PN_FIELDS, n)
         & partial_reads(&t)
         & is_mask(pairs, hex.len())
     {

@@ -35,7 +35,8 @@ pub fn range_of(c: Config) -> PnRange
     }
 }
 
-// The PNC number of a bit, 0 where the vector has no such bit. No `Option`: the status promises a number, 0 for none.
+// The PNC number of a bit, 0 where the vector has no such bit. No `Option`: by `channel.specs.Channel.status_of`
+// a status has a number, 0 for none.
 pub fn number_or_zero(b: VectorBit, range: PnRange) -> u32
     ensures { result ≡ number_or_zero (number_in range b) }
 {
@@ -68,7 +69,7 @@ impl PncNumber {
         let p = self.0;
         let start = range.start as u32;
         let length = range.length as u32;
-        if 8 * start <= p && p < 8 * (start + length) {
+        if (8 * start..8 * (start + length)).contains(&p) {
             Some(VectorBit(p - 8 * start))
         } else {
             None

@@ -53,8 +53,9 @@ fn fill_digits(digits: &mut [u8], n: u64)
 
 // ---- the writer
 
-// A lent buffer, and the place behind what is written in it. No `Display` for numbers and hex: it would test the room in each
-// write, which `HasRoom` has proved.
+// A lent buffer, and the place behind what is written in it. No `Display` for numbers and hex: `write_str` and `write!` answer a
+// `Result` of which they say only the Ok case, so that `put_number` and `put_hex`, which cannot fail, could fail.
+// No invariant holds the room: it shrinks with each text, and how much a caller needs differs.
 #[derive(Drop)]
 pub struct Writer<'a> {
     pub out: &'a mut [u8],
@@ -62,7 +63,7 @@ pub struct Writer<'a> {
 }
 
 impl Writer<'_> {
-    // One byte.
+    // One byte, by its place: `put_all` would need an array of it.
     pub fn put(&mut self, b: u8)
         requires { HasRoom self.old 1 }
         ensures { Puts self.old (b ∷ []) self.new }
@@ -71,7 +72,7 @@ impl Writer<'_> {
         self.at += 1;
     }
 
-    // Two bytes.
+    // Two bytes, for the same reason.
     pub fn put_pair(&mut self, a: u8, b: u8)
         requires { HasRoom self.old 2 }
         ensures { Puts self.old (a ∷ b ∷ []) self.new }

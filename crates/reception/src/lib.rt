@@ -1,7 +1,7 @@
 // A PDU received.
 //
 // Promises: the channel, answer and notes of channel's definition `replied`, over every channel handed in and all bytes,
-// refusals included. Leaves to others: what the filter decides and which timers a PDU loads (`frames`).
+// refusals included. Leaves to others: what the filter decides and which timers a PDU loads (`heard`).
 #![tactic(auto)]
 
 ghost use Rattle.std.specs.Prelude.{◌≡◌};
@@ -9,12 +9,14 @@ ghost use Rattle.decision.specs.Decision.{rx_indication};
 ghost use Rattle.channel.specs.Channel.{replied};
 ghost use Rattle.channel.specs.Told.{reply_of};
 
+use answers::Refusal;
 use channel::state::{Channel, Reply, Told};
 use decision::Rule;
 use kept_channel::KeptChannel;
+use refusals::Tests;
 
 // A PDU was received, by a channel that is kept.
-pub fn rx_indication_in_place(k: &mut KeptChannel, pdu: &[u8]) -> Told
+pub fn rx_indication_in_place(k: &mut KeptChannel, pdu: &[u8]) -> Result<Told, Refusal>
     ensures { reply_of k.new result ≡ replied k.old (rx_indication pdu.now) }
 {
     let sound = k.is_sound();
@@ -23,17 +25,20 @@ pub fn rx_indication_in_place(k: &mut KeptChannel, pdu: &[u8]) -> Told
     let reset = k.channel.own.ticks.reset;
     let rule = decision::rule_of(m.state, decision::RX_INDICATION);
     let size = pdu.len() as u64 != c.layout.length;
-    let answer = refusals::judge(sound, false, false, decision::is_not_here(rule), size);
-    if answer.is_err() {
-        return channel::unmoved(answer);
-    }
+    refusals::judge(Tests {
+        sound,
+        passive: false,
+        off: false,
+        elsewhere: decision::is_not_here(rule),
+        size,
+    })?;
     if !heard::accepted(c, m.filter, pdu) {
-        return channel::move_by(&mut k.channel, Rule::Keep, false, false, false);
+        return Ok(channel::move_by(&mut k.channel, Rule::Keep, false, false, false));
     }
     let again = heard::asks_repeat(c, pdu);
     let er = heard::load_heard(c, reset, pdu, &mut k.channel.own.era);
     let ei = heard::load_heard(c, reset, pdu, &mut k.channel.eira);
-    channel::move_by(&mut k.channel, rule, again, ei, er)
+    Ok(channel::move_by(&mut k.channel, rule, again, ei, er))
 }
 
 // A PDU was received.

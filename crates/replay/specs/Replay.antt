@@ -1,8 +1,10 @@
 -- What a line behind the configuration comes to: the run after it, and the text that it prints. Assumes nothing.
-use Rattle.std.specs.Prelude.{List, ℕ, replicate}
+use Rattle.std.specs.Prelude.{List, ℕ, Result, Ok, Err, false, replicate}
+use Rattle.answers.specs.declared.Refusal.{Refusal}
 use Rattle.answers.specs.Answers.{number_of}
 use Rattle.channel.specs.declared.state.Channel.{Channel}
 use Rattle.channel.specs.declared.state.Reply.{Reply}
+use Rattle.channel.specs.declared.state.Told.{Told}
 use Rattle.channel.specs.Channel.{Ticked}
 use Rattle.command_names.specs.declared.Command.{Command}
 use Rattle.std.specs.Prelude.{Option, Some, None}
@@ -12,7 +14,7 @@ use Rattle.report.specs.Report.{letter_of, line_text}
 use Rattle.dispatch.specs.Calls.{call_for, carried_out_by}
 use Rattle.runs.specs.declared.Phase.TheVariants.{Running}
 use Rattle.runs.specs.declared.Run.{Run}
-use Rattle.runs.specs.Runs.{Outcome, bare_text, counted, digit_of, outcome, passed, run_of, sent_bytes, unreadable_digit}
+use Rattle.runs.specs.Runs.{Outcome, bare_text, counted, digit_of, outcome, passed, quiet, run_of, sent_bytes, unreadable_digit}
 
 -- ---- a channel that is kept
 
@@ -27,6 +29,11 @@ unfoldable pub reply_text : ℕ → Reply → List ℕ → List ℕ
 reply_text n r frame =
     line_text n (digit_of (number_of r.answer)) (letter_of r.channel.own.mode.state) r.notes
     (sent_bytes r.sent r.channel.own.config.layout.length frame)
+
+-- what a line shows of what a call told: refused, no note and no frame
+abbrev pub shown : Result Told Refusal → Told
+shown (Ok told) = told
+shown (Err refusal) = record { notes = quiet; sent = false }
 
 -- ---- lines behind the configuration
 

@@ -8,10 +8,12 @@
 ghost use Rattle.std.specs.Prelude.{◌≡◌, ◌+◌, ◌*◌};
 ghost use Rattle.print.specs.Print.{HasRoom};
 ghost use Rattle.runs.specs.Runs.{Prints, counted};
-ghost use Rattle.replay.specs.Replay.{called, later_line, run_in};
+ghost use Rattle.replay.specs.Replay.{called, later_line, run_in, shown};
 ghost use Rattle.report.specs.Report.{report_most};
 ghost use Rattle.config.specs.Ranges.{pdu_most};
 
+use answers::Refusal;
+use channel::state::Told;
 use command_names::Command;
 use config::PDU_MOST;
 use kept_channel::KeptChannel;
@@ -22,6 +24,13 @@ use runs::{Phase, Run};
 // The most bytes in hex of a line.
 const BYTES_MOST: usize = 40;
 
+// What a line shows of what a call told: refused, no note and no frame.
+fn shown(told: Result<Told, Refusal>) -> Told
+    ensures { result ≡ shown told }
+{
+    told.unwrap_or_default()
+}
+
 // A call, and the line of its reply, behind n lines. There must be room for the longest line.
 fn called(k: &mut KeptChannel, n: u64, command: Command, bytes: &[u8], w: &mut Writer)
     requires { HasRoom w.old (report_most + 2 * pdu_most) }
@@ -29,9 +38,11 @@ fn called(k: &mut KeptChannel, n: u64, command: Command, bytes: &[u8], w: &mut W
 {
     let mut frame = [0u8; PDU_MOST];
     let told = dispatch_in_place::carry_out_in_place(k, command, bytes, &mut frame);
+    let answer = runs::digit(answers::answer_to(told));
+    let told = shown(told);
     let l = Line {
         number: runs::counted(n),
-        answer: runs::digit(told.answer),
+        answer,
         state: report::letter(k.channel.own.mode.state),
         notes: told.notes,
         frame: runs::sent_bytes(told.sent, k.channel.own.config.layout.length, &frame),

@@ -2,7 +2,7 @@
 //
 // Promises: the text of specs/Report is written by the writer, and nothing else. Leaves to others: the text of the notes
 // (`notes_text`), what a line's answer is (`replay`), and that the buffer has room. The caller counts the room once for all
-// bytes of a line (`length_line`), so that no writer tests it byte by byte.
+// bytes of a line (`length_line`), so that no writer tests it byte by byte. No `Display`, for the reason at `print::Writer`.
 #![tactic(auto)]
 
 ghost use Rattle.std.specs.Prelude.{◌≡◌, ◌+◌, ◌*◌, length};
@@ -29,8 +29,8 @@ pub fn letter(s: State) -> u8
 
 // ---- the line
 
-// A line. The answer and the state are the bytes that are printed for them, and may be any. The frame has no byte where none was
-// sent.
+// A line. The answer and the state are the bytes that are printed for them, and may be any, as `runs::put_bare` promises. The
+// frame has no byte where none was sent.
 #[derive(Clone, Copy)]
 pub struct Line<'a> {
     pub number: u64,

@@ -39,7 +39,7 @@ tried : both (λ r1. both (λ r2. both (λ r3. both (λ r4. both (λ r5. both (�
 unfolding both
 tried = refl
 
--- where a judgement is ok, no rule is broken; where it is not, the answer is no done one
+-- where a judgement is ok, no rule is broken; where it is not, the answer is a refusal
 pub kept : (r : Result ⊤ BrokenRule) → is_ok r ≡ true → r ≡ Ok tt
 kept (Ok tt) e = refl
 kept (Err rule) e = absurd (false≢true e)

@@ -1,6 +1,7 @@
 // The first broken rule of a configuration.
 //
-// Promises: the first of the eight rules that is broken, if one is, for every configuration whatever its numbers. Leaves to others: the rules themselves (`time_rules`, `header_rules`, `pn_rules`).
+// Promises: the first of the eight rules that is broken, if one is, for every configuration whatever its numbers. Leaves to
+// others: the rules themselves (`time_rules`, `header_rules`, `pn_rules`).
 #![tactic(auto)]
 
 ghost use Rattle.std.specs.Prelude.{◌≡◌};
@@ -10,7 +11,7 @@ use answers::BrokenRule;
 use config::{Config, Ticks};
 
 // With the ticks that its times come to.
-#[tactic(auto, unfolding(crate::specs::Rules::first_broken_by))]
+#[tactic(auto, unfolding(crate::specs::Rules::first_broken_by, header_rules::specs::HeaderRules::first_broken_of_header))]
 pub fn first_broken_by(c: Config, t: Ticks) -> Result<(), BrokenRule>
     ensures { result ≡ first_broken_by c t }
 {
@@ -19,8 +20,7 @@ pub fn first_broken_by(c: Config, t: Ticks) -> Result<(), BrokenRule>
     BrokenRule::Offset.unless(time_rules::offset_rule(t))?;
     BrokenRule::FastCycle.unless(time_rules::fast_rule(c, t))?;
     BrokenRule::Timeout.unless(time_rules::timeout_rule(t))?;
-    BrokenRule::PduLength.unless(header_rules::length_rule(c.layout))?;
-    BrokenRule::Header.unless(header_rules::header_rule(c.layout))?;
+    header_rules::first_broken_of_header(c.layout)?;
     BrokenRule::PartialNetwork.unless(pn_rules::pn_rule(c, t))
 }
 

@@ -39,7 +39,7 @@ pub record Gives (o : Outcome) (l : List ℕ) (i : ℕ) (m : List ℕ) (s : Step
   pub run : s.run ≡ o.run
   pub text : Wrote l i o.text m s.at
 
--- that run is given, and that text is put by the writer w, which makes it v
+-- the run is the outcome's, and the writer v is w with its text written
 pub record Prints (o : Outcome) (w : Writer) (r : Run) (v : Writer) : Type 0 where
   pub run : r ≡ o.run
   pub text : Puts w o.text v

@@ -32,7 +32,7 @@ pub enum Phase {
 }
 
 // A run between two lines, with the count of those that came before. Until the configuration is judged the channel only holds
-// it.
+// it. The phases hold no channel of their own: `Reaches` (`trace_claims`) speaks of the channel of any run.
 #[derive(Clone, Copy)]
 pub struct Run {
     pub phase: Phase,
@@ -40,7 +40,7 @@ pub struct Run {
     pub channel: Channel,
 }
 
-// The run after a line, and the place behind what is printed so far.
+// The run after a text, and how many bytes it printed.
 #[derive(Clone, Copy)]
 pub struct Step {
     pub run: Run,
@@ -82,12 +82,7 @@ pub fn digit(a: Answer) -> u8
 fn quiet() -> Notes
     ensures { result ≡ quiet }
 {
-    Notes {
-        first: None,
-        second: None,
-        eira: false,
-        era: false,
-    }
+    Notes::default()
 }
 
 // A line without notes and frame. There must be room for the longest.

@@ -1,9 +1,8 @@
 -- What is given of a line, and what it says of the line. Assumes nothing.
-use mathlib.Core.Path.{◌≡◌, refl}
+use mathlib.Core.Path.{◌≡◌, refl, sym}
 use mathlib.Core.Bool.{Bool, true, false, cond}
-use Prim.Native.Nat.{ℕ}
-use native.Mathlib.Omega.{arith}
 use Rattle.std.specs.Prelude.{Some, None}
+use Rattle.std.proofs.lemmas.Option.{none-some}
 use Rattle.config.specs.declared.Config.{Config}
 use Rattle.settings.specs.Settings.{Setting, given}
 
@@ -19,11 +18,11 @@ module _ (s : Setting) where
     where
       by_flag : (t : Bool) → Some c ≡ cond t (Some s.config) None → (t ≡ true) × (c ≡ s.config)
       by_flag true h = (refl, cc)
-      by_flag false h = let z : ◌≡◌ {A = ℕ} 0 1 = cc in absurd (omega arith)
+      by_flag false h = absurd (none-some _ (sym h))
 
   pub none_given : None ≡ given s → s.readable ≡ false
   none_given e = by_flag s.readable e
     where
       by_flag : (t : Bool) → None ≡ cond t (Some s.config) None → t ≡ false
-      by_flag true h = let z : ◌≡◌ {A = ℕ} 0 1 = cc in absurd (omega arith)
+      by_flag true h = absurd (none-some _ h)
       by_flag false h = refl

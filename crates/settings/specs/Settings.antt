@@ -8,7 +8,7 @@ use Rattle.blocks.specs.Blocks.{line_most}
 use Rattle.fields.specs.Fields.{tab}
 use Rattle.fields.specs.Numbers.{dash_number, tokens_of}
 use Rattle.names.specs.declared.Name.{Name}
-use Rattle.names.specs.Names.{call_of, is_name, name_at}
+use Rattle.names.specs.Names.{call_of, is_same, name_at}
 
 -- ---- what a field may read as
 
@@ -38,9 +38,9 @@ given s = cond s.readable (Some s.config) None
 unfoldable pub name_of : List ℕ → Option Name
 name_of l = name_at (call_of (take (until tab l) l))
 
--- a line of a name, with as many fields as it must have, and not too long
-unfoldable pub is_line : List ℕ → Name → ℕ → ℕ → Bool
-is_line l name must count = leb (length l) line_most && is_name (name_of l) name && eqb count must
+-- a line of a name, or of none, with as many fields as it must have, and not too long
+unfoldable pub is_line : List ℕ → Option Name → ℕ → ℕ → Bool
+is_line l name must count = leb (length l) line_most && is_same (name_of l) name && eqb count must
 
 -- how many fields line 1 has
 abbrev pub cfg_fields : ℕ

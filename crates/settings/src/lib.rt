@@ -45,9 +45,9 @@ pub fn name_of(l: &[u8]) -> Option<Name>
     names::call(slices::part(l, 0, fields::field_end(l, 0)))
 }
 
-// Is this a line of that name, with as many fields as it must have, and not too long?
-pub fn is_line(l: &[u8], name: Name, must: usize, count: usize) -> bool
+// Is this a line of that name, or of none, with as many fields as it must have, and not too long?
+pub fn is_line(l: &[u8], name: Option<Name>, must: usize, count: usize) -> bool
     ensures { result ≡ is_line l.now name must count }
 {
-    (l.len() <= blocks::LINE_MOST) & (name_of(l) == Some(name)) & (count == must)
+    (l.len() <= blocks::LINE_MOST) & (name_of(l) == name) & (count == must)
 }

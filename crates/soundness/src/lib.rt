@@ -68,7 +68,7 @@ impl Prepared {
 }
 
 // The same, where the configuration was not prepared before.
-#[tactic(auto, using(crate::proofs::Alike::sound_alike))]
+#[tactic(auto, using(crate::proofs::Alike::prepared_alike))]
 pub fn sound(
     c: Config,
     t: Ticks,

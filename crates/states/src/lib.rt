@@ -6,9 +6,10 @@
 ghost use Rattle.std.specs.Prelude.{◌≡◌};
 ghost use Rattle.states.specs.State.{state_number, in_network, is_bus_sleep, is_normal, is_prepare, is_repeat, settled, transmits};
 
-// The states, numbered in this order from 0.
-#[derive(Clone, Copy, PartialEq, Eq)]
+// The states, numbered in this order from 0. A channel begins in the first.
+#[derive(Clone, Copy, PartialEq, Eq, Default)]
 pub enum State {
+    #[default]
     BusSleep = 0,
     PrepareBusSleep = 1,
     RepeatMessage = 2,
@@ -17,7 +18,7 @@ pub enum State {
 }
 
 // What decides the state: nothing else of the channel is looked at for it.
-#[derive(Clone, Copy)]
+#[derive(Clone, Copy, Default)]
 pub struct Mode {
     pub state: State,
     pub requested: bool,
@@ -51,7 +52,7 @@ pub enum Note {
     RemoteSleepIndication, // RI
 }
 
-// The number of a state: the status and the table of decisions promise the number.
+// The number of a state: `channel.specs.Channel.status_of` and `decision.specs.Decision.rule_of` promise it.
 pub fn state_number(s: State) -> u8
     ensures { result ≡ state_number s }
 {
@@ -82,7 +83,7 @@ pub fn settled(s: State) -> bool
     matches!(s, State::NormalOperation | State::ReadySleep)
 }
 
-// The next four say no more than `==`, with which crates here compare states; docs/PROMISES.md names them.
+// The next four are `==` with a state, which the crates here write themselves; they stay since docs/PROMISES.md names them.
 pub fn is_bus_sleep(s: State) -> bool
     ensures { result ≡ is_bus_sleep s }
 {

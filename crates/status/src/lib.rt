@@ -12,6 +12,7 @@ use answers::Answer;
 use channel::state::{Channel, Status};
 use config::{Config, PN_MOST, PNC_MOST};
 use pnc::VectorBit;
+use refusals::Tests;
 
 fn vector_of(t: &[u16; PNC_MOST]) -> [u8; PN_MOST]
     ensures { result ≡ vector_of t.now }
@@ -27,12 +28,10 @@ fn lowest_of(c: Config, v: &[u8; PN_MOST]) -> u32
     ensures { result ≡ lowest_pnc c (lowest_in v.now) }
 {
     let range = pnc::range_of(c);
-    match bits::lowest_one(v) {
-        Some(b) => pnc::number_or_zero(VectorBit(b), range),
-        None => 0,
-    }
+    bits::lowest_one(v).map_or(0, |b| pnc::number_or_zero(VectorBit(b), range))
 }
 
+#[tactic(auto, unfolding(channel::specs::Channel::unshown))]
 fn unshown(a: Answer) -> Status
     ensures { result ≡ unshown a }
 {
@@ -52,9 +51,15 @@ pub fn status(ch: Channel) -> Status
 {
     let c = ch.own.config;
     let state = ch.own.mode.state;
-    let ok = ch.is_sound();
+    let sound = ch.is_sound();
     let elsewhere = decision::is_not_here(decision::rule_of(state, decision::STATUS));
-    let a = refusals::judge(ok, false, false, elsewhere, false);
+    let a = refusals::judge(Tests {
+        sound,
+        passive: false,
+        off: false,
+        elsewhere,
+        size: false,
+    });
     if a.is_ok() {
         let era = vector_of(&ch.own.era);
         let eira = vector_of(&ch.eira);

@@ -13,30 +13,23 @@
 //   121  EIRA timers
 // A word that is too large for its field is cut to the field's bits; any word but 0 is a flag that is set, and any
 // word above 3 is Ready Sleep.
-ghost use Rattle.std.specs.Prelude.{◌≤◌};
-
-use answers::Answer;
-use channel::state::{Channel, Notes, Own, Reply};
-use config::{Config, PDU_MOST, PN_MOST, PNC_MOST, Ticks, Times};
+use super::Answered;
+use channel::state::{Channel, Own, Reply};
+use config::{Config, PDU_MOST, PN_MOST, Partial, Ticks, Times};
 use states::{Mode, Note, State, Traffic};
 
 // How many words a channel takes.
 pub const WORDS: usize = 177;
 
-// The answer where no call was made: the words are too few or too many, or there is no such call.
+// The answer where no call was made: the words are too few or too many, or there is no such call. A number, as C gets it.
 pub const NO_CALL: u32 = 255;
 
-#[repr(C)]
-#[derive(Clone, Copy)]
-pub struct Begun {
-    pub answer: u32,
-    pub rule: u32,
-}
+// C interface of the tests: the two structs and their numbers, as tests/compare declares them.
 
 // What a call gave: the notes by their number (0 none, 1 NM, 2 ST, 3 PB, 4 BS, 5 TO, 6 RC, 7 RI), then whether EI and ER
 // were raised, and whether a frame was sent.
 #[repr(C)]
-#[derive(Clone, Copy)]
+#[derive(Clone, Copy, Default)]
 pub struct Called {
     pub answer: u32,
     pub rule: u32,
@@ -59,16 +52,39 @@ pub struct Shown {
 
 // ---- a channel of words
 
-fn word(w: &[u64], k: usize) -> u16 {
-    (super::at(w, k) % 65536) as u16
+// What a field takes of a word.
+trait FromWord: Copy {
+    fn from_word(word: u64) -> Self;
 }
 
-fn byte(w: &[u64], k: usize) -> u8 {
-    (super::at(w, k) % 256) as u8
+impl FromWord for u8 {
+    fn from_word(word: u64) -> u8 {
+        (word % 256) as u8
+    }
 }
 
-fn flag(w: &[u64], k: usize) -> bool {
-    super::at(w, k) != 0
+impl FromWord for u16 {
+    fn from_word(word: u64) -> u16 {
+        (word % 65536) as u16
+    }
+}
+
+impl FromWord for bool {
+    fn from_word(word: u64) -> bool {
+        word != 0
+    }
+}
+
+// The field at word k.
+fn get<T: FromWord>(w: &[u64], k: usize) -> T {
+    T::from_word(super::at(w, k))
+}
+
+// The fields from word k on; those past the end stay.
+fn get_all<T: FromWord>(w: &[u64], k: usize, xs: &mut [T]) {
+    for (x, word) in xs.iter_mut().zip(w.iter().skip(k)) {
+        *x = T::from_word(*word);
+    }
 }
 
 fn state_of(number: u64) -> State {
@@ -81,26 +97,9 @@ fn state_of(number: u64) -> State {
     }
 }
 
-fn bytes_of(w: &[u64], k: usize) -> [u8; PDU_MOST]
-    requires { k ≤ 1000 }
-{
-    let mut bytes = [0; PDU_MOST];
-    for (i, x) in bytes.iter_mut().enumerate() {
-        *x = byte(w, k + i);
-    }
-    bytes
-}
-
-fn load_timers(w: &[u64], k: usize, timers: &mut [u16; PNC_MOST])
-    requires { k ≤ 1000 }
-{
-    for (i, timer) in timers.iter_mut().enumerate() {
-        *timer = word(w, k + i);
-    }
-}
-
 fn config_in(w: &[u64]) -> Config {
-    let mask = bytes_of(w, 20);
+    let mut mask = [0; PDU_MOST];
+    get_all(w, 20, &mut mask);
     super::config_of(w, &mask)
 }
 
@@ -117,152 +116,121 @@ const TICKS_AT: Times<usize> = Times {
 };
 
 fn ticks_in(w: &[u64]) -> Ticks {
-    TICKS_AT.map(|k| word(w, k))
+    TICKS_AT.map(|k| get(w, k))
 }
 
 fn mode_in(w: &[u64]) -> Mode {
     Mode {
         state: state_of(super::at(w, 36)),
-        requested: flag(w, 37),
-        sending: flag(w, 38),
-        filter: flag(w, 39),
-        nm: word(w, 40),
-        wait: word(w, 41),
-        repeat: word(w, 42),
+        requested: get(w, 37),
+        sending: get(w, 38),
+        filter: get(w, 39),
+        nm: get(w, 40),
+        wait: get(w, 41),
+        repeat: get(w, 42),
     }
 }
 
 fn traffic_in(w: &[u64]) -> Traffic {
     Traffic {
-        message: word(w, 43),
-        fast: word(w, 44),
-        remote: word(w, 45),
-        indicated: flag(w, 46),
-        repeating: flag(w, 47),
-        waking: flag(w, 48),
+        message: get(w, 43),
+        fast: get(w, 44),
+        remote: get(w, 45),
+        indicated: get(w, 46),
+        repeating: get(w, 47),
+        waking: get(w, 48),
     }
 }
 
 pub fn channel_in(w: &[u64]) -> Channel {
-    let mut era = [0; Channel::TIMERS];
-    load_timers(w, 65, &mut era);
-    let mut eira = [0; Channel::TIMERS];
-    load_timers(w, 121, &mut eira);
-    let own = Own {
+    let mut own = Own {
         config: config_in(w),
         ticks: ticks_in(w),
         mode: mode_in(w),
         traffic: traffic_in(w),
-        user: bytes_of(w, 49),
-        requests: bytes_of(w, 57),
-        era: era,
+        user: [0; PDU_MOST],
+        requests: [0; PDU_MOST],
+        era: [0; Channel::TIMERS],
     };
-    Channel {
-        own: own,
-        eira: eira,
-    }
+    let mut eira = [0; Channel::TIMERS];
+    get_all(w, 49, &mut own.user);
+    get_all(w, 57, &mut own.requests);
+    get_all(w, 65, &mut own.era);
+    get_all(w, 121, &mut eira);
+    Channel { own, eira }
 }
 
 // ---- the words of a channel
 
-fn put_word(w: &mut [u64], k: usize, value: u16) {
-    slices::put(w, k, value as u64);
+// A number in its word.
+fn put<T: Into<u64>>(w: &mut [u64], k: usize, x: T) {
+    slices::put(w, k, x.into());
 }
 
-fn put_byte(w: &mut [u64], k: usize, value: u8) {
-    slices::put(w, k, value as u64);
-}
-
-fn put_flag(w: &mut [u64], k: usize, set: bool) {
-    slices::put(w, k, u64::from(set));
-}
-
-fn put_bytes(w: &mut [u64], k: usize, bytes: &[u8; PDU_MOST])
-    requires { k ≤ 1000 }
-{
-    for (i, x) in bytes.iter().enumerate() {
-        put_byte(w, k + i, *x);
+// Numbers in the words from k on.
+fn put_all<T: Copy + Into<u64>>(w: &mut [u64], k: usize, xs: &[T]) {
+    for (word, x) in w.iter_mut().skip(k).zip(xs) {
+        *word = (*x).into();
     }
 }
 
-fn put_timers(w: &mut [u64], k: usize, timers: &[u16; PNC_MOST])
-    requires { k ≤ 1000 }
-{
-    for (i, timer) in timers.iter().enumerate() {
-        put_word(w, k + i, *timer);
-    }
-}
-
-fn put_times(w: &mut [u64], c: Config) {
-    slices::put(w, 0, c.period);
-    for (k, ms) in super::TIMES_AT.each().iter().zip(c.times.each().iter()) {
-        slices::put(w, *k, *ms);
+// Times in their words. They come as a slice: `each` of a type parameter asks for a bound on its size.
+fn put_times<T: Copy + Into<u64>>(w: &mut [u64], places: Times<usize>, times: &[T]) {
+    for (k, time) in places.each().iter().zip(times) {
+        put(w, *k, *time);
     }
 }
 
 fn put_layout(w: &mut [u64], c: Config) {
-    slices::put(w, 6, c.immediate);
-    put_flag(w, 9, c.passive);
-    slices::put(w, 10, c.layout.length);
-    slices::put(w, 11, c.layout.sni);
-    slices::put(w, 12, c.layout.cbv);
-    slices::put(w, 13, c.node);
+    put(w, 0, c.period);
+    put(w, 6, c.immediate);
+    put(w, 9, c.passive);
+    put(w, 10, c.layout.length);
+    put(w, 11, c.layout.sni);
+    put(w, 12, c.layout.cbv);
+    put(w, 13, c.node);
 }
 
-fn put_partial(w: &mut [u64], c: Config) {
-    let pn = c.pn;
-    let mask = pn.mask;
-    put_flag(w, 14, pn.on);
-    slices::put(w, 15, pn.start);
-    slices::put(w, 16, pn.length);
-    put_flag(w, 18, pn.awake);
-    slices::put(w, 19, pn.masked);
-    put_bytes(w, 20, &mask);
-}
-
-fn put_ticks(w: &mut [u64], t: Ticks) {
-    for (k, ticks) in TICKS_AT.each().iter().zip(t.each().iter()) {
-        put_word(w, *k, *ticks);
-    }
+fn put_partial(w: &mut [u64], pn: Partial) {
+    put(w, 14, pn.on);
+    put(w, 15, pn.start);
+    put(w, 16, pn.length);
+    put(w, 18, pn.awake);
+    put(w, 19, pn.masked);
+    put_all(w, 20, &pn.mask);
 }
 
 fn put_mode(w: &mut [u64], m: Mode) {
-    let state = m.state;
-    put_byte(w, 36, states::state_number(state));
-    put_flag(w, 37, m.requested);
-    put_flag(w, 38, m.sending);
-    put_flag(w, 39, m.filter);
-    put_word(w, 40, m.nm);
-    put_word(w, 41, m.wait);
-    put_word(w, 42, m.repeat);
+    put(w, 36, states::state_number(m.state));
+    put(w, 37, m.requested);
+    put(w, 38, m.sending);
+    put(w, 39, m.filter);
+    put(w, 40, m.nm);
+    put(w, 41, m.wait);
+    put(w, 42, m.repeat);
 }
 
 fn put_traffic(w: &mut [u64], x: Traffic) {
-    put_word(w, 43, x.message);
-    put_word(w, 44, x.fast);
-    put_word(w, 45, x.remote);
-    put_flag(w, 46, x.indicated);
-    put_flag(w, 47, x.repeating);
-    put_flag(w, 48, x.waking);
+    put(w, 43, x.message);
+    put(w, 44, x.fast);
+    put(w, 45, x.remote);
+    put(w, 46, x.indicated);
+    put(w, 47, x.repeating);
+    put(w, 48, x.waking);
 }
 
 fn put_tables(w: &mut [u64], ch: Channel) {
-    let own = ch.own;
-    let user = own.user;
-    put_bytes(w, 49, &user);
-    let requests = own.requests;
-    put_bytes(w, 57, &requests);
-    let era = own.era;
-    put_timers(w, 65, &era);
-    let eira = ch.eira;
-    put_timers(w, 121, &eira);
+    put_all(w, 49, &ch.own.user);
+    put_all(w, 57, &ch.own.requests);
+    put_all(w, 65, &ch.own.era);
+    put_all(w, 121, &ch.eira);
 }
 
 pub fn put_channel(w: &mut [u64], ch: Channel) {
-    put_times(w, ch.own.config);
+    put_times(w, super::TIMES_AT, &ch.own.config.times.each());
     put_layout(w, ch.own.config);
-    put_partial(w, ch.own.config);
-    put_ticks(w, ch.own.ticks);
+    put_partial(w, ch.own.config.pn);
+    put_times(w, TICKS_AT, &ch.own.ticks.each());
     put_mode(w, ch.own.mode);
     put_traffic(w, ch.own.traffic);
     put_tables(w, ch);
@@ -278,33 +246,15 @@ fn note_number(note: Option<Note>) -> u32 {
     }
 }
 
-fn digit(set: bool) -> u32 {
-    u32::from(set)
-}
-
-fn outcome(a: Answer, notes: Notes, sent: bool) -> Called {
-    let first = notes.first;
-    let second = notes.second;
+fn outcome(r: &Reply) -> Called {
     Called {
-        answer: answers::number(a) as u32,
-        rule: answers::rule(a) as u32,
-        first: note_number(first),
-        second: note_number(second),
-        ei: digit(notes.eira),
-        er: digit(notes.era),
-        sent: digit(sent),
-    }
-}
-
-fn no_outcome() -> Called {
-    Called {
-        answer: NO_CALL,
-        rule: 0,
-        first: 0,
-        second: 0,
-        ei: 0,
-        er: 0,
-        sent: 0,
+        answer: answers::number(r.answer) as u32,
+        rule: answers::rule(r.answer) as u32,
+        first: note_number(r.notes.first),
+        second: note_number(r.notes.second),
+        ei: u32::from(r.notes.eira),
+        er: u32::from(r.notes.era),
+        sent: u32::from(r.sent),
     }
 }
 
@@ -327,22 +277,14 @@ fn reply_of(ch: Channel, call: u32, set: bool, bytes: &[u8], frame: &mut [u8]) -
 }
 
 fn is_call(call: u32) -> bool {
-    match call {
-        0..=10 => true,
-        12 => true,
-        _ => false,
-    }
+    matches!(call, 0..=10 | 12)
 }
 
 // Initialises a channel of a configuration.
-pub fn test_initialise(numbers: &[u64], mask: &[u8], words: &mut [u64]) -> Begun {
+pub fn test_initialise(numbers: &[u64], mask: &[u8], words: &mut [u64]) -> Answered {
     let s = Channel::initialise(super::config_of(numbers, mask));
-    let a = s.answer;
     put_channel(words, s.channel);
-    Begun {
-        answer: answers::number(a) as u32,
-        rule: answers::rule(a) as u32,
-    }
+    Answered::from(s.answer)
 }
 
 // Every call but status (11). The flag is the confirmation's or the main function's, the bytes are those of the calls
@@ -354,35 +296,30 @@ pub fn test_call(
     bytes: &[u8],
     frame: &mut [u8],
 ) -> Called {
-    if words.len() == WORDS {
-        if is_call(call) {
-            let ch = channel_in(words);
-            let r = reply_of(ch, call, flag != 0, bytes, frame);
-            let a = r.answer;
-            put_channel(words, r.channel);
-            return outcome(a, r.notes, r.sent);
-        }
+    if words.len() == WORDS && is_call(call) {
+        let r = reply_of(channel_in(words), call, flag != 0, bytes, frame);
+        put_channel(words, r.channel);
+        return outcome(&r);
     }
-    no_outcome()
+    Called {
+        answer: NO_CALL,
+        ..Called::default()
+    }
 }
 
 fn put_vector(vector: &[u8; PN_MOST], out: &mut [u8]) {
-    for (i, x) in out.iter_mut().enumerate() {
-        *x = vector.get(i).copied().unwrap_or(0);
-    }
+    out.fill(0);
+    slices::copy(vector, out);
 }
 
 // Status, with both vectors in the first seven of the lent bytes and 0 behind them.
 pub fn test_status(words: &[u64], era: &mut [u8], eira: &mut [u8]) -> Shown {
     let s = status::status(channel_in(words));
-    let a = s.answer;
-    let first = s.era;
-    put_vector(&first, era);
-    let second = s.eira;
-    put_vector(&second, eira);
+    put_vector(&s.era, era);
+    put_vector(&s.eira, eira);
     Shown {
-        answer: answers::number(a) as u32,
-        rule: answers::rule(a) as u32,
+        answer: answers::number(s.answer) as u32,
+        rule: answers::rule(s.answer) as u32,
         state: s.state as u32,
         count: s.count,
         lowest: s.lowest,

@@ -5,15 +5,17 @@
 // is given (`cannm_c`), the calls themselves, and the symbols for C (`test_host_c`).
 #![tactic(auto)]
 
+use answers::Answer;
 use config::{Config, Layout, PDU_MOST, Partial, Times};
-use pdu::Header;
+use layout::PduFields;
 use pnc::{PnRange, PncNumber, VectorBit};
 
 pub mod exchange;
 
+// C interface of the tests: the three structs and their numbers, as tests/compare declares them.
 #[repr(C)]
 #[derive(Clone, Copy)]
-pub struct Composed {
+pub struct Answered {
     pub answer: u32,
     pub rule: u32,
 }
@@ -28,10 +30,28 @@ pub struct Read {
 }
 
 #[repr(C)]
-#[derive(Clone, Copy)]
+#[derive(Clone, Copy, Default)]
 pub struct Place {
     pub inside: u32,
     pub value: u32,
+}
+
+impl From<Answer> for Answered {
+    fn from(a: Answer) -> Answered {
+        Answered {
+            answer: answers::number(a) as u32,
+            rule: answers::rule(a) as u32,
+        }
+    }
+}
+
+impl From<Option<u32>> for Place {
+    fn from(value: Option<u32>) -> Place {
+        match value {
+            Some(value) => Place { inside: 1, value },
+            None => Place::default(),
+        }
+    }
 }
 
 // Number k, 0 past the end.
@@ -65,14 +85,13 @@ fn config_of(n: &[u64], mask: &[u8]) -> Config {
         sni: at(n, 11),
         cbv: at(n, 12),
     };
-    let bytes = mask_of(mask);
     let pn = Partial {
         on: at(n, 14) != 0,
         start: at(n, 15),
         length: at(n, 16),
         awake: at(n, 18) != 0,
         masked: at(n, 19),
-        mask: bytes,
+        mask: mask_of(mask),
     };
     Config {
         period: at(n, 0),
@@ -80,8 +99,8 @@ fn config_of(n: &[u64], mask: &[u8]) -> Config {
         immediate: at(n, 6),
         node: at(n, 13),
         passive: at(n, 9) != 0,
-        layout: layout,
-        pn: pn,
+        layout,
+        pn,
     }
 }
 
@@ -97,19 +116,20 @@ pub fn test_compose(
     pn: &[u8],
     user: &[u8],
     frame: &mut [u8],
-) -> Composed {
-    let c = config_of(numbers, mask);
-    let a = pdu::compose(c, (sni % 256) as u8, (cbv % 256) as u8, pn, user, frame);
-    Composed {
-        answer: answers::number(a) as u32,
-        rule: answers::rule(a) as u32,
-    }
+) -> Answered {
+    let fields = PduFields {
+        sni: (sni % 256) as u8,
+        cbv: (cbv % 256) as u8,
+        pn,
+        user,
+    };
+    Answered::from(pdu::compose(config_of(numbers, mask), fields, frame))
 }
 
 pub fn test_read(numbers: &[u64], mask: &[u8], pdu: &[u8], pn: &mut [u8], user: &mut [u8]) -> Read {
     let r = pdu::read(config_of(numbers, mask), pdu, pn, user);
     let a = answers::answer_to(r);
-    let header = r.unwrap_or(Header { sni: 0, cbv: 0 });
+    let header = r.unwrap_or_default();
     Read {
         answer: answers::number(a) as u32,
         rule: answers::rule(a) as u32,
@@ -126,29 +146,11 @@ fn range_of(start: u32, length: u32) -> PnRange {
 }
 
 pub fn test_pnc_number(start: u32, length: u32, bit: u32) -> Place {
-    let n = VectorBit(bit).number(range_of(start, length));
-    match n {
-        Some(p) => Place {
-            inside: 1,
-            value: p.0,
-        },
-        None => Place {
-            inside: 0,
-            value: 0,
-        },
-    }
+    let number = VectorBit(bit).number(range_of(start, length));
+    Place::from(number.map(|number| number.0))
 }
 
 pub fn test_pnc_bit(start: u32, length: u32, number: u32) -> Place {
-    let b = PncNumber(number).bit(range_of(start, length));
-    match b {
-        Some(v) => Place {
-            inside: 1,
-            value: v.0,
-        },
-        None => Place {
-            inside: 0,
-            value: 0,
-        },
-    }
+    let bit = PncNumber(number).bit(range_of(start, length));
+    Place::from(bit.map(|bit| bit.0))
 }

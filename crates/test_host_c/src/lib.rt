@@ -3,8 +3,8 @@
 // Promises: nothing of its results, only that each function ends and goes without an error.
 #![tactic(auto)]
 
-use test_host::exchange::{Begun, Called, Shown};
-use test_host::{Composed, Place, Read};
+use test_host::exchange::{Called, Shown};
+use test_host::{Answered, Place, Read};
 
 #[unsafe(no_mangle)]
 pub extern "C" fn test_first_broken_rule(numbers: &[u64], mask: &[u8]) -> u32 {
@@ -20,7 +20,7 @@ pub extern "C" fn test_compose(
     pn: &[u8],
     user: &[u8],
     frame: &mut [u8],
-) -> Composed {
+) -> Answered {
     test_host::test_compose(numbers, mask, sni, cbv, pn, user, frame)
 }
 
@@ -46,7 +46,7 @@ pub extern "C" fn test_pnc_bit(start: u32, length: u32, number: u32) -> Place {
 }
 
 #[unsafe(no_mangle)]
-pub extern "C" fn test_initialise(numbers: &[u64], mask: &[u8], words: &mut [u64]) -> Begun {
+pub extern "C" fn test_initialise(numbers: &[u64], mask: &[u8], words: &mut [u64]) -> Answered {
     test_host::exchange::test_initialise(numbers, mask, words)
 }
 

@@ -13,6 +13,7 @@ use Rattle.text.specs.Lines.{before, lines_of, line_feed, span_at, until}
 use Rattle.std.specs.Prelude.{Option, Some, None, nat_lt, unwrap_or}
 use Rattle.std.specs.List.{position, position_or_len}
 use Rattle.std.proofs.lemmas.List.Sums.{prefix_len-le-length}
+use Rattle.std.proofs.lemmas.Option.{cond_some, none-some}
 use Rattle.std.proofs.lemmas.List.Recursion.{is_position_or_len}
 
 -- ---- the first b from a place on
@@ -110,21 +111,16 @@ lines_grow (x ∷ xs) t = by_byte (eqb x line_feed) (lines_of xs) (lines_of (xs 
 
 -- ---- what a span says
 
-span_by : (s : List ℕ) (at : ℕ) (t : Bool) {a e : ℕ} → ltb at (length s) ≡ t → cond {A = Option (ℕ × ℕ)} t (Some (at, at + until line_feed (drop at s))) None ≡ Some (a, e)
-    → (at < length s) × (a ≡ at) × (e ≡ at + until line_feed (drop at s)) × (e ≤ length s)
-span_by s at true {a} {e} h i =
-    let l = ltb-true at (length s) h in
-    let both : ◌≡◌ {A = ℕ × ℕ} (at, at + until line_feed (drop at s)) (a, e) = cc in
-    let p : e ≡ at + until line_feed (drop at s) = sym (ap (λ (x : ℕ × ℕ). x.1) both) in
-    (l, sym (ap (λ (x : ℕ × ℕ). x.0) both), p, (found_le line_feed s at (omega arith) p).1)
-span_by s at false h i = let z : ◌≡◌ {A = ℕ} 0 1 = cc in absurd (omega arith)
-
 pub span_line : (s : List ℕ) (at : ℕ) {a e : ℕ} → span_at s at ≡ Some (a, e) → (at < length s) × (a ≡ at) × (e ≡ at + until line_feed (drop at s)) × (e ≤ length s)
 unfolding span_at
-span_line s at h = span_by s at (ltb at (length s)) refl h
+span_line s at {a} {e} h =
+    let f = cond_some (ltb at (length s)) (at, at + until line_feed (drop at s)) (a, e) h in
+    let l = ltb-true at (length s) f.0 in
+    let p : e ≡ at + until line_feed (drop at s) = sym (ap (λ (x : ℕ × ℕ). x.1) f.1) in
+    (l, sym (ap (λ (x : ℕ × ℕ). x.0) f.1), p, (found_le line_feed s at (omega arith) p).1)
 
 end_by : (s : List ℕ) (at : ℕ) (t : Bool) → ltb at (length s) ≡ t → cond {A = Option (ℕ × ℕ)} t (Some (at, at + until line_feed (drop at s))) None ≡ None → length s ≤ at
-end_by s at true h i = let z : ◌≡◌ {A = ℕ} 0 1 = cc in absurd (omega arith)
+end_by s at true h i = absurd (none-some _ (sym i))
 end_by s at false h i = ltb-false at (length s) h
 
 pub span_end : (s : List ℕ) (at : ℕ) → span_at s at ≡ None → length s ≤ at

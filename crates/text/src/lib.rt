@@ -55,7 +55,7 @@ pub fn line_count(s: &[u8]) -> usize
 {
     let mut n: usize = 0;
     let mut at: usize = 0;
-    // A place is carried along: `split_inclusive` is a method of `str` alone.
+    // A place is carried along: no lemma of std says which parts `split_inclusive` of a slice yields.
     while let Some((_, end)) = span_at(s, at) {
         at = end + 1;
         n += 1;
@@ -87,7 +87,8 @@ impl<'a> Reader<'a> {
     }
 }
 
-// The line that begins at a place, by a reader. Its parameters are plain, so that its callers meet no reader.
+// The same by a reader. The reader stays, since a small reader over the lent text is a rule of the project; this function serves
+// callers that hold a text and a place.
 pub fn line_at(text: &[u8], at: usize) -> Option<(usize, usize)>
     ensures { result ≡ span_at text.now at }
 {

@@ -9,12 +9,18 @@ ghost use Rattle.std.specs.Prelude.{◌≡◌};
 ghost use Rattle.channel.specs.Channel.{ticked, ticked_by};
 ghost use Rattle.channel.specs.Told.{reply_of};
 
+use answers::Refusal;
 use channel::state::{Channel, Notes, Reply, Told};
 use kept_channel::KeptChannel;
+use refusals::Tests;
 
 // The main function on a channel that is kept: `taken` says whether the driver takes a frame, which goes into the first bytes
 // of the lent one.
-pub fn main_function_in_place(k: &mut KeptChannel, taken: bool, frame: &mut [u8]) -> Told
+pub fn main_function_in_place(
+    k: &mut KeptChannel,
+    taken: bool,
+    frame: &mut [u8],
+) -> Result<Told, Refusal>
     ensures { ticked (reply_of k.new result) frame.new ≡ ticked_by k.old taken frame.old }
 {
     let sound = k.is_sound();
@@ -24,10 +30,13 @@ pub fn main_function_in_place(k: &mut KeptChannel, taken: bool, frame: &mut [u8]
     let old = k.channel.own.traffic;
     let rule = decision::rule_of(m.state, decision::MAIN_FUNCTION);
     let size = !(c.layout.length <= frame.len() as u64);
-    let answer = refusals::judge(sound, false, false, decision::is_not_here(rule), size);
-    if answer.is_err() {
-        return channel::unmoved(answer);
-    }
+    refusals::judge(Tests {
+        sound,
+        passive: false,
+        off: false,
+        elsewhere: decision::is_not_here(rule),
+        size,
+    })?;
     // Steps a to d.
     let after = mode_transitions::mode_by(rule, false, t, m);
     let s = traffic::setup_of(c, t);
@@ -46,8 +55,7 @@ pub fn main_function_in_place(k: &mut KeptChannel, taken: bool, frame: &mut [u8]
     } else {
         timers::count_down(&mut k.channel.eira)
     };
-    Told {
-        answer: Ok(()),
+    Ok(Told {
         notes: Notes {
             first,
             second,
@@ -55,7 +63,7 @@ pub fn main_function_in_place(k: &mut KeptChannel, taken: bool, frame: &mut [u8]
             era: er,
         },
         sent,
-    }
+    })
 }
 
 // The main function, a tick.

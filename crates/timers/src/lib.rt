@@ -6,11 +6,11 @@
 
 ghost use Rattle.std.specs.Prelude.{◌≡◌, ◌*◌, ◌^◌, ◌<◌, min};
 ghost use Rattle.timers.specs.Timers.{counted_down, loaded_where};
-ghost use Rattle.vectors.specs.Vectors.{vectors_differ};
+ghost use Rattle.vectors.specs.Vectors.{Changes};
 
 // Every running timer one down. Answers whether the vector changed by it.
 pub fn count_down(timers: &mut [u16]) -> bool
-    ensures { (timers.new ≡ counted_down timers.old) × (result ≡ vectors_differ timers.old (counted_down timers.old)) }
+    ensures { Changes timers.old (counted_down timers.old) timers.new result }
 {
     let mut fell = false;
     for t in timers.iter_mut() {
@@ -20,27 +20,26 @@ pub fn count_down(timers: &mut [u16]) -> bool
     fell
 }
 
-// How many of `n` timers have a bit in so many bytes. The product is made only where it is at most `n`.
+// How many of `n` timers have a bit in so many bytes.
 fn timers_of(bytes: usize, n: usize) -> usize
     ensures { result ≡ min (8 * bytes) n }
 {
-    if bytes <= n / 8 { 8 * bytes } else { n }
+    bytes.saturating_mul(8).min(n)
 }
 
 // Each timer whose bit stands in the bytes and in the mask is loaded with `reset`. Timers past the end of either have no
 // bit and are not looked at, so that the loop tests no bound. Answers whether the vector changed by it.
 pub fn load_where(bytes: &[u8], mask: &[u8], reset: u16, timers: &mut [u16]) -> bool
-    ensures { (timers.new ≡ loaded_where bytes.now mask.now reset timers.old) × (result ≡ vectors_differ timers.old (loaded_where bytes.now mask.now reset timers.old)) }
+    ensures { Changes timers.old (loaded_where bytes.now mask.now reset timers.old) timers.new result }
 {
     let end = timers_of(bytes.len().min(mask.len()), timers.len());
     let mut changed = false;
-    for i in 0..end {
+    for (i, t) in timers[..end].iter_mut().enumerate() {
         let marked = bits::bit_of(bytes[i / 8], (i % 8) as u8)
             & bits::bit_of(mask[i / 8], (i % 8) as u8);
-        let t = timers[i];
-        let u = choice::pick(marked, reset, t);
-        changed |= (t == 0) ^ (u == 0);
-        timers[i] = u;
+        let u = choice::pick(marked, reset, *t);
+        changed |= (*t == 0) ^ (u == 0);
+        *t = u;
     }
     changed
 }

@@ -11,13 +11,13 @@ use Rattle.print.specs.Print.{Wrote}
 use Rattle.print.proofs.Wrote.{then}
 
 -- some bytes in front of a buffer, and others behind them
-pub put_behind : (l a b : List ℕ) {k m n : List ℕ} {r : ℕ} → a ≡ k → m ≡ sets l 0 a → n ≡ sets m (length a) b → r ≡ length a + length b → filled r n ≡ fill l (k ++ b)
-put_behind l a b {k} {m} {n} {r} d e f g =
+pub put_behind : (l a b : List ℕ) {m n : List ℕ} {r : ℕ} → m ≡ sets l 0 a → n ≡ sets m (length a) b → r ≡ length a + length b → filled r n ≡ fill l (a ++ b)
+put_behind l a b {m} {n} {r} e f g =
     let v : Wrote l 0 a m (length a) = record { next = omega arith; list = e } in
     let w : Wrote m (length a) b n r = record { next = g; list = f } in
     let u = then v w in
     let i : r ≡ length (a ++ b) = omega (arith, u.next) in
-    rw (← d) (rw (i, u.list))
+    rw (i, u.list)
 
 -- so many bytes of a buffer that was filled, where there was room for them
 pub filled_text : {n : ℕ} {m : List ℕ} (l vs : List ℕ) → filled n m ≡ fill l vs → length vs ≤ length l → take n m ≡ vs

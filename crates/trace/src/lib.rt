@@ -6,7 +6,7 @@
 // however they are cut into blocks (`trace_claims`).
 #![tactic(auto)]
 
-ghost use Rattle.std.specs.Prelude.{◌≡◌, ◌++◌, ◌+◌, ◌*◌, ◌≤◌, length, take};
+ghost use Rattle.std.specs.Prelude.{◌≡◌, ◌++◌, ◌+◌, ◌*◌, ◌≤◌, length};
 ghost use Rattle.text.specs.Filled.{fill, filled};
 ghost use Rattle.text.specs.Lines.{lines_of};
 ghost use Rattle.print.specs.Print.{HasRoom};
@@ -22,29 +22,23 @@ use runs::{Phase, Run, Step};
 
 // ---- the lines of a text
 
-// The lines of a text. There must be room for what each prints. No `while let`: a running trace is handed over before the
-// next line is looked for, also where none is left.
+// The lines of a text. There must be room for what each prints.
+#[tactic(auto, using(text::proofs::Lines::span_line))]
 fn lines(run: Run, text: &[u8], w: &mut Writer) -> Run
     requires { HasRoom w.old (room * length text.now) }
     ensures { Prints (lines_from run (lines_of text.now)) w.old result w.new }
 {
     let mut now = run;
     let mut at = 0;
-    // A place is carried along: `split` of a slice gives an empty line behind a last line feed, and no place for `running`.
-    loop {
+    // By places, through the reader, which is a rule of the project; `running` goes on at the place.
+    while let Some((first, end)) = text::line_at(text, at) {
         if trace_line::is_running(now.phase) {
             return call_lines::running(now, text, at, w);
         }
-        match text::line_at(text, at) {
-            Some((first, end)) => {
-                now = trace_line::line(now, &text[first..end], w);
-                at = end + 1;
-            }
-            None => {
-                return now;
-            }
-        }
+        now = trace_line::line(now, &text[first..end], w);
+        at = end + 1;
     }
+    now
 }
 
 // The same, at the start of a buffer.
@@ -66,7 +60,8 @@ fn whole_from(run: Run, text: &[u8], w: &mut Writer) -> Run
     trace_line::finish(last, w)
 }
 
-// The same, at the start of a buffer.
+// The same, at the start of a buffer. No closure for `lines` and `whole_from`: what it may be called with, and what it then
+// prints, would stand in a contract that is longer than these lines.
 fn put_whole(run: Run, text: &[u8], out: &mut [u8]) -> Step
     requires { room * (length text.now + 1) ≤ length out.old }
     ensures { Gives (whole_from run text.now) out.old 0 out.new result }
@@ -77,10 +72,11 @@ fn put_whole(run: Run, text: &[u8], out: &mut [u8]) -> Step
 }
 
 // The run before the first line.
+#[tactic(auto, unfolding(crate::specs::Trace::first_run))]
 fn first_run() -> Run
     ensures { result ≡ first_run }
 {
-    config_lines::holding(Phase::First, 0, config_line::blank())
+    config_lines::holding(Phase::First, 0, config_line::fields_config(b""))
 }
 
 // The text of a trace, all of it at once, for our own programs. There must be room for what each line prints, and for a line
@@ -98,7 +94,7 @@ pub fn whole(text: &[u8], out: &mut [u8]) -> Step
 const KEPT_MOST: usize = LINE_MOST + 1;
 
 // A trace between two blocks: the run up to the last finished line, and what is carried along of the unfinished one, which are
-// the first `kept` bytes of `line`. No invariant bounds `kept`: a block is answered for any number there.
+// the first `kept` bytes of `line`. No invariant bounds `kept`: `block` and `end` answer for any number there.
 #[derive(Clone, Copy)]
 pub struct Trace {
     pub run: Run,
@@ -107,19 +103,21 @@ pub struct Trace {
 }
 
 // A run with what is kept of an unfinished line.
+#[tactic(auto, unfolding(crate::specs::Trace::keeping))]
 fn keeping(run: Run, bytes: &[u8]) -> Trace
     ensures { result ≡ keeping run bytes.now }
 {
     let mut line = [0u8; KEPT_MOST];
     slices::copy(bytes, &mut line);
     Trace {
-        run: run,
-        line: line,
+        run,
+        line,
         kept: bytes.len(),
     }
 }
 
 // Before the first block.
+#[tactic(auto, unfolding(crate::specs::Trace::start))]
 pub fn start() -> Trace
     ensures { result ≡ start }
 {
@@ -137,8 +135,8 @@ const TEXT_MOST: usize = KEPT_MOST + BLOCK_MOST;
 // Room for what a block prints, since each of its lines has a byte at least. The end of the input prints less.
 pub const BLOCK_ROOM: usize = trace_line::ROOM * TEXT_MOST;
 
-// The answer to a block, the trace behind it, and how many bytes it printed. No `Result`: a refused block gives back the
-// same trace beside the answer.
+// The answer to a block, the trace behind it, and how many bytes it printed. No `Result`: of a refused block `block` promises
+// the same trace beside the answer.
 #[derive(Clone, Copy)]
 pub struct BlockReply {
     pub answer: Answer,
@@ -147,10 +145,9 @@ pub struct BlockReply {
 }
 
 // What was kept, and a block behind it, at the start of a buffer, as far as there is room. Answers how many bytes they are.
-fn put_text(line: &[u8], kept: usize, block: &[u8], text: &mut [u8]) -> usize
-    ensures { filled result text.new ≡ fill text.old (take kept line.now ++ block.now) }
+fn put_text(before: &[u8], block: &[u8], text: &mut [u8]) -> usize
+    ensures { filled result text.new ≡ fill text.old (before.now ++ block.now) }
 {
-    let before = slices::part(line, 0, kept);
     slices::copy(before, text);
     slices::put_part(text, before.len(), block);
     before.len() + block.len()
@@ -177,7 +174,7 @@ fn refused(trace: Trace) -> BlockReply
 {
     BlockReply {
         answer: Err(Refusal::Length),
-        trace: trace,
+        trace,
         at: 0,
     }
 }
@@ -191,9 +188,8 @@ pub fn block(trace: Trace, block: &[u8], out: &mut [u8; BLOCK_ROOM]) -> BlockRep
     if BLOCK_MOST < block.len() {
         return refused(trace);
     }
-    let line = trace.line;
     let mut buf = [0u8; TEXT_MOST];
-    let n = put_text(&line, trace.kept, block, &mut buf);
+    let n = put_text(slices::part(&trace.line, 0, trace.kept), block, &mut buf);
     let text = slices::part(&buf, 0, n);
     if blocks::lines_fit(trace.run.lines, text) {
         return taken(trace.run, text, out);
@@ -208,6 +204,5 @@ pub fn block(trace: Trace, block: &[u8], out: &mut [u8; BLOCK_ROOM]) -> BlockRep
 pub fn end(trace: Trace, out: &mut [u8; BLOCK_ROOM]) -> Step
     ensures { Gives (ended trace) out.old 0 out.new result }
 {
-    let line = trace.line;
-    put_whole(trace.run, slices::part(&line, 0, trace.kept), out)
+    put_whole(trace.run, slices::part(&trace.line, 0, trace.kept), out)
 }

@@ -5,7 +5,7 @@
 // (tests/vectors). No contract can say which bytes a file has.
 #![tactic(auto)]
 
-ghost use Rattle.std.specs.Prelude.{◌≡◌, true, ◌++◌, ◌+◌, ◌≤◌, length, take};
+ghost use Rattle.std.specs.Prelude.{◌≡◌, true, ◌++◌, ◌+◌, ◌≤◌, IfSome, length};
 ghost use Rattle.print.specs.Print.{HasRoom, Puts};
 ghost use Rattle.trace.specs.Trace.{printed};
 
@@ -37,13 +37,12 @@ fn put_path(w: &mut Writer, name: &[u8], ending: &[u8])
     w.put_all(ending);
 }
 
-// Reads until the buffer is full, the file ends or a read fails. Answers how many bytes stand in front of the buffer. Counted,
-// since a read may give fewer bytes than there is room for, and `read_exact` does not tell how many came before an error.
+// Reads until the buffer is full, the file ends or a read fails. Answers how many bytes stand in front of the buffer.
 fn read_full<F: Read>(file: &mut F, buf: &mut [u8]) -> usize
     ensures { result ≤ length buf.new }
 {
     let mut done = 0;
-    // By hand: of a file that ends before the buffer is full `read_exact` says no count.
+    // Counted by hand: `read_exact` does not tell how many bytes came before the file's end or an error.
     while done < buf.len() {
         match file.read(&mut buf[done..]) {
             Ok(0) | Err(_) => break,
@@ -53,22 +52,30 @@ fn read_full<F: Read>(file: &mut F, buf: &mut [u8]) -> usize
     done
 }
 
-// How many bytes a whole file has, which then stand in front of the buffer. A file is whole where a read behind its last byte
-// tells that nothing follows: not where its name is no UTF-8 text, where it can't be opened or read, or where it is longer than
-// the buffer.
-fn read_file<R: Files>(rt: &R, path: &[u8], buf: &mut [u8]) -> Option<usize> {
+// The bytes of a whole file, in front of the buffer. A file is whole where a read behind its last byte tells that nothing
+// follows: not where its name is no UTF-8 text, where it can't be opened or read, or where it is longer than the buffer.
+fn read_file<'a, R: Files>(rt: &R, path: &[u8], buf: &'a mut [u8]) -> Option<&'a [u8]>
+    ensures { IfSome result (λ bytes. length bytes.now ≤ length buf.old) }
+{
     let name = str::from_utf8(path).ok()?;
     let mut file = fs::open(rt, name).ok()?;
     let n = read_full(&mut file, buf);
     let mut behind = [0u8; 1];
     match file.read(&mut behind) {
-        Ok(0) => Some(n),
+        Ok(0) => Some(&buf[..n]),
         _ => None,
     }
 }
 
 // A file of a trace, by the trace's name and what its own name ends in.
-fn read_named<R: Files>(rt: &R, name: &[u8], ending: &[u8], buf: &mut [u8]) -> Option<usize> {
+fn read_named<'a, R: Files>(
+    rt: &R,
+    name: &[u8],
+    ending: &[u8],
+    buf: &'a mut [u8],
+) -> Option<&'a [u8]>
+    ensures { IfSome result (λ bytes. length bytes.now ≤ length buf.old) }
+{
     if PATH_MOST < name.len() + ending.len() {
         return None;
     }
@@ -84,26 +91,29 @@ fn read_named<R: Files>(rt: &R, name: &[u8], ending: &[u8], buf: &mut [u8]) -> O
 
 // ---- traces
 
-// Is the stored output what the trace in the first n bytes of the buffer prints?
-fn passes(text: &[u8; FILE_MOST], n: usize, stored: &[u8], out: &mut [u8; OUTPUT]) -> bool
-    ensures { (result ≡ true → printed (take n text.now) ≡ stored.now) × (printed (take n text.now) ≡ stored.now → result ≡ true) }
+// Is the stored output what the trace prints?
+fn passes(text: &[u8], stored: &[u8], out: &mut [u8; OUTPUT]) -> bool
+    requires { length text.now ≤ 2048 }
+    ensures { (result ≡ true → printed text.now ≡ stored.now) × (printed text.now ≡ stored.now → result ≡ true) }
 {
-    let s = trace::whole(slices::part(text, 0, n), out);
+    let s = trace::whole(text, out);
     slices::part(out, 0, s.at) == stored
 }
 
-// Does the trace of a name print what is stored?
-fn agrees<R: Files>(
-    rt: &R,
-    name: &[u8],
-    text: &mut [u8; FILE_MOST],
-    stored: &mut [u8; FILE_MOST],
-    out: &mut [u8; OUTPUT],
-) -> bool {
-    let t = read_named(rt, name, b".trace", text);
-    let s = read_named(rt, name, b".out", stored);
-    match (t, s) {
-        (Some(t), Some(s)) => passes(text, t, slices::part(stored, 0, s), out),
+// Room for a trace: its text, its stored output, and what it prints.
+#[derive(Drop)]
+struct Buffers {
+    text: [u8; FILE_MOST],
+    stored: [u8; FILE_MOST],
+    out: [u8; OUTPUT],
+}
+
+// Does the trace of a name print what is stored? Not where one of the two files is not whole.
+fn agrees<R: Files>(rt: &R, name: &[u8], buffers: &mut Buffers) -> bool {
+    let text = read_named(rt, name, b".trace", &mut buffers.text);
+    let stored = read_named(rt, name, b".out", &mut buffers.stored);
+    match (text, stored) {
+        (Some(text), Some(stored)) => passes(text, stored, &mut buffers.out),
         _ => false,
     }
 }
@@ -114,67 +124,44 @@ fn tell<R: Print>(rt: &R, name: &[u8]) {
     let _ = rt.write_all(b" differs\n");
 }
 
-// 1 for a trace that prints what is stored; 0, and its name is printed, for one that differs.
-fn judged<R: Files + Print>(
-    rt: &R,
-    name: &[u8],
-    text: &mut [u8; FILE_MOST],
-    stored: &mut [u8; FILE_MOST],
-    out: &mut [u8; OUTPUT],
-) -> u64
-    ensures { result ≤ 1 }
-{
-    if agrees(rt, name, text, stored, out) {
-        return 1;
+// Does the trace of a name print what is stored? The name of one that differs is printed.
+fn judged<R: Files + Print>(rt: &R, name: &[u8], buffers: &mut Buffers) -> bool {
+    let good = agrees(rt, name, buffers);
+    if !good {
+        tell(rt, name);
     }
-    tell(rt, name);
-    0
+    good
 }
 
 // How many traces of a list print what is stored.
-fn count<R: Files + Print>(
-    rt: &R,
-    names: &[u8],
-    text: &mut [u8; FILE_MOST],
-    stored: &mut [u8; FILE_MOST],
-    out: &mut [u8; OUTPUT],
-) -> u64 {
+#[tactic(auto, using(text::proofs::Lines::span_line))]
+fn count<R: Files + Print>(rt: &R, names: &[u8], buffers: &mut Buffers) -> u64 {
     let mut good: u64 = 0;
     let mut at = 0;
     // A place is carried along: `split` of a slice gives an empty line behind a last line feed.
-    loop {
-        match text::line_at(names, at) {
-            Some((first, end)) => {
-                good += judged(rt, &names[first..end], text, stored, out);
-                at = end + 1;
-            }
-            None => {
-                return good;
-            }
-        }
+    while let Some((first, end)) = text::line_at(names, at) {
+        good += u64::from(judged(rt, &names[first..end], buffers));
+        at = end + 1;
     }
+    good
 }
 
-fn run<R: Files + Print>(
-    rt: &R,
-    names: &mut [u8; NAMES_MOST],
-    text: &mut [u8; FILE_MOST],
-    stored: &mut [u8; FILE_MOST],
-    out: &mut [u8; OUTPUT],
-) {
-    let list = b"names";
-    let Some(n) = read_file(rt, list, names) else {
-        tell(rt, list);
+fn run<R: Files + Print>(rt: &R, names: &mut [u8; NAMES_MOST], buffers: &mut Buffers) {
+    let file = b"names";
+    let Some(list) = read_file(rt, file, names) else {
+        tell(rt, file);
         return;
     };
-    let good = count(rt, slices::part(names, 0, n), text, stored, out);
+    let good = count(rt, list, buffers);
     let _ = println!(rt; "{good} traces print what is stored");
 }
 
 fn main(rt: HostRuntime) {
     let mut names = [0u8; NAMES_MOST];
-    let mut text = [0u8; FILE_MOST];
-    let mut stored = [0u8; FILE_MOST];
-    let mut out = [0u8; OUTPUT];
-    run(&rt, &mut names, &mut text, &mut stored, &mut out);
+    let mut buffers = Buffers {
+        text: [0; FILE_MOST],
+        stored: [0; FILE_MOST],
+        out: [0; OUTPUT],
+    };
+    run(&rt, &mut names, &mut buffers);
 }

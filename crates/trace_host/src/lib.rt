@@ -8,6 +8,7 @@
 use runs::Run;
 use trace::{BLOCK_ROOM, Trace};
 
+// C interface of the tests: the two structs and their numbers, as tests/compare declares them.
 #[repr(C)]
 #[derive(Clone, Copy)]
 pub struct InBlocks {
@@ -42,57 +43,42 @@ fn counting(trace: Trace, lines: u64) -> Trace {
     }
 }
 
+// The block before which the count of lines is set, and the count.
+#[derive(Clone, Copy)]
+struct Preset {
+    before: u64,
+    lines: u64,
+}
+
 // The trace with its count set before a block, if that is the one.
-fn counting_at(trace: Trace, k: usize, before: u64, lines: u64) -> Trace {
-    if (k as u64) == before {
-        return counting(trace, lines);
+fn counting_at(trace: Trace, k: usize, preset: Preset) -> Trace {
+    if k as u64 == preset.before {
+        return counting(trace, preset.lines);
     }
     trace
 }
 
-// No test prints as much as this.
-const PRINTED_MOST: usize = 1099511627776;
-
-// So many bytes more, as long as they are few.
-fn added(printed: usize, more: usize) -> usize {
-    if printed <= PRINTED_MOST {
-        if more <= PRINTED_MOST {
-            return printed + more;
-        }
-    }
-    printed
+// Where blocks put their answers and all that they print, and the page that one block prints on.
+#[derive(Drop)]
+struct Room<'a> {
+    answers: &'a mut [u8],
+    out: &'a mut [u8],
+    page: &'a mut [u8; BLOCK_ROOM],
 }
 
 // One block: its answer at its place, its text behind what is printed.
-fn one(
-    w: Went,
-    block: &[u8],
-    k: usize,
-    answers: &mut [u8],
-    out: &mut [u8],
-    page: &mut [u8; BLOCK_ROOM],
-) -> Went {
-    let r = trace::block(w.trace, block, page);
-    let answer = r.answer;
-    slices::put(answers, k, answers::number(answer));
-    slices::put_part(out, w.printed, slices::part(page, 0, r.at));
-    let trace = r.trace;
+fn one(w: Went, block: &[u8], k: usize, room: &mut Room) -> Went {
+    let r = trace::block(w.trace, block, room.page);
+    slices::put(room.answers, k, answers::number(r.answer));
+    slices::put_part(room.out, w.printed, slices::part(room.page, 0, r.at));
     Went {
-        trace: trace,
-        printed: added(w.printed, r.at),
+        trace: r.trace,
+        printed: w.printed.saturating_add(r.at),
     }
 }
 
 // The blocks of a text, by the place behind each. Before one of them the count of lines is set.
-fn all(
-    text: &[u8],
-    ends: &[u64],
-    before: u64,
-    lines: u64,
-    answers: &mut [u8],
-    out: &mut [u8],
-    page: &mut [u8; BLOCK_ROOM],
-) -> Went {
+fn all(text: &[u8], ends: &[u64], preset: Preset, room: &mut Room) -> Went {
     let mut w = Went {
         trace: trace::start(),
         printed: 0,
@@ -100,9 +86,9 @@ fn all(
     let mut from: usize = 0;
     for (k, end) in ends.iter().enumerate() {
         let to = from.max(*end as usize);
-        let trace = counting_at(w.trace, k, before, lines);
+        let trace = counting_at(w.trace, k, preset);
         let block = slices::part(text, from, to - from);
-        w = one(Went { trace, ..w }, block, k, answers, out, page);
+        w = one(Went { trace, ..w }, block, k, room);
         from = to;
     }
     w
@@ -124,22 +110,21 @@ pub extern "C" fn test_trace_in_blocks(
     out: &mut [u8],
     page: &mut [u8; BLOCK_ROOM],
 ) -> InBlocks {
-    let mut scratch = [0u8; BLOCK_ROOM];
-    let w = all(
-        text,
-        ends,
-        preset_before,
-        preset,
+    let mut room = Room {
         answers,
         out,
-        &mut scratch,
-    );
-    let trace = w.trace;
-    let s = trace::end(trace, page);
+        page: &mut [0u8; BLOCK_ROOM],
+    };
+    let preset = Preset {
+        before: preset_before,
+        lines: preset,
+    };
+    let w = all(text, ends, preset, &mut room);
+    let s = trace::end(w.trace, page);
     InBlocks {
         printed: w.printed as u64,
-        lines: trace.run.lines,
-        kept: trace.kept as u64,
+        lines: w.trace.run.lines,
+        kept: w.trace.kept as u64,
         end_at: s.at as u64,
         end_lines: s.run.lines,
     }
@@ -154,25 +139,21 @@ pub extern "C" fn test_trace_block(
     block: &[u8],
     page: &mut [u8; BLOCK_ROOM],
 ) -> AfterBlock {
-    let mut answers = [0u8; 1];
-    let mut out = [0u8; 1];
-    let mut scratch = [0u8; BLOCK_ROOM];
-    let w = all(
-        text,
-        ends,
-        preset_before,
-        preset,
-        &mut answers,
-        &mut out,
-        &mut scratch,
-    );
+    let mut room = Room {
+        answers: &mut [0u8; 1],
+        out: &mut [0u8; 1],
+        page: &mut [0u8; BLOCK_ROOM],
+    };
+    let preset = Preset {
+        before: preset_before,
+        lines: preset,
+    };
+    let w = all(text, ends, preset, &mut room);
     let r = trace::block(w.trace, block, page);
-    let answer = r.answer;
-    let trace = r.trace;
     AfterBlock {
-        answer: answers::number(answer) as u64,
+        answer: answers::number(r.answer) as u64,
         at: r.at as u64,
-        lines: trace.run.lines,
-        kept: trace.kept as u64,
+        lines: r.trace.run.lines,
+        kept: r.trace.kept as u64,
     }
 }

@@ -50,7 +50,8 @@ fn second_line(run: Run, l: &[u8], w: &mut Writer) -> Run
 // Room for what a line prints.
 pub const ROOM: usize = 65;
 
-// A line of a trace. There must be room for what it prints.
+// A line of a trace. There must be room for what it prints. No table of functions by phase: a call through it would need one
+// clause for all four, and the match has a line for each.
 #[tactic(auto, unfolding(crate::specs::TraceLine::line_in))]
 pub fn line(run: Run, l: &[u8], w: &mut Writer) -> Run
     requires { HasRoom w.old room }
@@ -64,7 +65,7 @@ pub fn line(run: Run, l: &[u8], w: &mut Writer) -> Run
     }
 }
 
-// The end of the input: a configuration that waits for line 2 is judged. There must be room for a line.
+// The end of the input: a configuration that waits for line 2 is judged. There must be room for a line. A match, as in `line`.
 #[tactic(auto, unfolding(crate::specs::TraceLine::ending))]
 pub fn finish(run: Run, w: &mut Writer) -> Run
     requires { HasRoom w.old report_most }

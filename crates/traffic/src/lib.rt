@@ -62,13 +62,19 @@ fn fast_frames(s: Setup, x: Traffic) -> Traffic
     }
 }
 
-// Not one function with `to_repeat_asked`: the two set different fields, so that no constant tells them apart.
+// Repeat Message, with fast frames.
+fn to_repeat_fast(s: Setup, x: Traffic) -> Traffic
+    ensures { result ≡ with_fast s (to_repeat s x) }
+{
+    fast_frames(s, to_repeat(s, x))
+}
+
 #[tactic(auto, unfolding(crate::specs::Traffic::to_repeat_active))]
 pub fn to_repeat_active(s: Setup, x: Traffic) -> Traffic
     ensures { result ≡ to_repeat_active s x }
 {
     let awake = Traffic { waking: true, ..x };
-    fast_frames(s, to_repeat(s, awake))
+    to_repeat_fast(s, awake)
 }
 
 #[tactic(auto, unfolding(crate::specs::Traffic::to_repeat_asked))]
@@ -79,7 +85,7 @@ pub fn to_repeat_asked(s: Setup, x: Traffic) -> Traffic
         repeating: true,
         ..x
     };
-    fast_frames(s, to_repeat(s, asked))
+    to_repeat_fast(s, asked)
 }
 
 // The remote timer where Normal Operation starts it.
@@ -122,20 +128,16 @@ pub fn resumed(m: Mode, x: Traffic) -> Traffic
     }
 }
 
-// Not one function with `heard_in_ready`: this one sets a timer that the other keeps, so that no constant tells them apart.
-#[tactic(auto, unfolding(crate::specs::Traffic::heard_in_normal))]
+// As in Ready Sleep, and the remote timer starts again.
+#[tactic(auto, unfolding(crate::specs::Traffic::heard_in_normal, crate::specs::Traffic::heard_in_ready, crate::specs::Traffic::to_repeat))]
 pub fn heard_in_normal(again: bool, s: Setup, x: Traffic) -> Traffic
     ensures { result ≡ heard_in_normal again s x }
 {
-    if again {
-        to_repeat(s, x)
-    } else {
-        Traffic {
-            remote: s.ticks.remote,
-            indicated: false,
-            ..x
-        }
-    }
+    let restarted = Traffic {
+        remote: s.ticks.remote,
+        ..x
+    };
+    heard_in_ready(again, s, restarted)
 }
 
 #[tactic(auto, unfolding(crate::specs::Traffic::heard_in_ready))]

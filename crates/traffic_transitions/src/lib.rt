@@ -11,7 +11,8 @@ use decision::Rule;
 use states::{Mode, Traffic};
 use traffic::Setup;
 
-// The traffic after a rule, with the mode before and after it.
+// The traffic after a rule, with the mode before and after it. A `match`: each step takes other arguments, and a table of
+// functions would have to be handed out.
 #[tactic(auto, unfolding(crate::specs::TrafficTransitions::traffic_by))]
 pub fn traffic_by(
     rule: Rule,

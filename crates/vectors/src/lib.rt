@@ -4,7 +4,7 @@
 // timers (`timers`), and what a bit stands for (`pnc`).
 #![tactic(auto)]
 
-ghost use Rattle.std.specs.Prelude.{◌≡◌, ◌*◌, ◌^◌, ◌≤◌, ◌<◌};
+ghost use Rattle.std.specs.Prelude.{◌≡◌, ◌≤◌};
 ghost use Rattle.vectors.specs.Vectors.{running_bit, vector_byte, vectors_differ};
 
 // Does some bit of the first table's vector differ from the second's? Past the second's end its bits are 0.
@@ -27,12 +27,11 @@ fn digit(t: u16) -> u8
 
 // The byte of the vector whose first bit is timer `at`.
 pub fn vector_byte(timers: &[u16], at: usize) -> u8
-    requires { at < 2 ^ 32 }
     ensures { result ≡ vector_byte timers.now at }
 {
     let mut byte = 0u8;
-    for i in 0..8 {
-        byte += digit(timers.get(at + i).copied().unwrap_or(0)) << i;
+    for (i, t) in slices::part(timers, at, 8).iter().enumerate() {
+        byte += digit(*t) << i;
     }
     byte
 }

@@ -1,5 +1,5 @@
 -- `blocks::lines_fit` meets its contract. Assumes nothing.
-use mathlib.Core.Path.{sym}
+use mathlib.Core.Path.{sym, ◌∙◌}
 use Prim.Native.Nat.{◌+◌, ◌-◌}
 use native.Mathlib.Omega.{arith}
 use borrow.Author.Tests.{le-leb}
@@ -13,10 +13,10 @@ use Rattle.blocks.proofs.lines_fit.Goals as goal
 pub returns-then-text-left : goal.returns-then-text-left
 returns-then-text-left c =
     let a = c.args in
-    sym (le-leb (a.lines + length (lines_of a.text.now)) lines_most (omega (arith, c.if-text-left.true, count_le a.text.now)))
+    le-leb _ _ c.if-text-left.true ∙ sym (le-leb (a.lines + length (lines_of a.text.now)) lines_most (omega (arith, c.if-text-left.true, count_le a.text.now)))
 
-pub returns : goal.returns
-returns c =
+pub returns-else-text-left : goal.returns-else-text-left
+returns-else-text-left c =
     let a = c.args in
     let n = length (lines_of a.text.now) in
     rw c.line_count.ensures (same_leb n (lines_most - a.lines) (a.lines + n) lines_most (λ h. omega arith) (λ h. omega arith))

@@ -13,7 +13,7 @@ use Rattle.config.proofs.Lists.{all_paired}
 use Rattle.time_rules.specs.TimeRules.{in_ticks, ticks_for}
 use Rattle.kept_ticks.proofs.same_ticks.Goals as goal
 
--- a time is what is kept of it
+-- a kept number of ticks is what its time comes to
 abbrev kept_as : Config → ℕ × ℕ → Bool
 kept_as c p = eqb p.1 (in_ticks c p.0)
 

@@ -2,31 +2,34 @@
 use mathlib.Core.Path.{◌≡◌, sym, ◌∙◌}
 use mathlib.Core.Bool.{◌&&◌, true, false}
 use lib.ListN.{length}
+use Rattle.std.proofs.lemmas.Result.{err_from_is_err_and}
 use Rattle.decision.specs.Decision.{Call, main_function}
-use Rattle.refusals.specs.Refusals.{is_done, refusal}
+use Rattle.refusals.specs.Refusals.{is_done}
 use Rattle.channel.specs.declared.state.Channel.{Channel}
 use Rattle.channel.specs.Channel.{again_for, answer_of, carried_out, eira_after, era_after, frame_after, mode_after, notes_after, own_after, refused, replied, requests_after, rule_for, sends, ticked_by, traffic_after, traffic_moved, user_after}
-use Rattle.channel.proofs.Carried.{frame_sent}
+use Rattle.channel.proofs.Carried.{answered, frame_sent, refusing}
 use Rattle.tick.proofs.main_function_in_place.Goals as goal
 
-pub returns-then-is_err : goal.returns-then-is_err
-unfolding answer_of refusal ticked_by frame_after replied refused
-returns-then-is_err c =
+pub returns-in_err-judge : goal.returns-in_err-judge
+unfolding ticked_by frame_after refused
+returns-in_err-judge c =
     let a = c.args in
-    let ch : Channel = a.k.now in
+    let ch : Channel = c.k.inside.channel in
     let tick : Call = main_function a.taken (length a.frame.now) in
-    let answer : c.judge-answer.result ≡ answer_of ch tick = rw (c.judge-answer.ensures, c.is_not_here.ensures, c.rule_of-rule.ensures, c.is_sound-sound.ensures, c.k.view_is) in
-    let refused : is_done (answer_of ch tick) ≡ false = rw (← answer, c.is_err.ensures.negation, c.if-is_err.true) in
-    rw (refused, c.unmoved.ensures, answer)
+    let answer : c.judge.result ≡ answer_of ch tick =
+    answered ch tick c.judge.ensures (rw (c.is_sound-sound.ensures, ← c.k.view_is)) (rw (c.is_not_here.ensures, c.rule_of-rule.ensures)) in
+    let p = err_from_is_err_and c.from_residual.result c.from_residual.ensures.1 in
+    rw (p.1, p.2, ← c.k.view_is, refusing ch tick answer c.in_err-judge.was)
 
 pub returns-then-sent : goal.returns-then-sent
-unfolding answer_of refusal ticked_by replied carried_out own_after notes_after mode_after traffic_after traffic_moved user_after requests_after era_after eira_after rule_for again_for sends
+unfolding ticked_by replied carried_out own_after notes_after mode_after traffic_after traffic_moved user_after requests_after era_after eira_after rule_for again_for sends
 returns-then-sent c =
     let a = c.args in
     let ch : Channel = c.k.inside.channel in
     let tick : Call = main_function a.taken (length a.frame.now) in
-    let answer : c.judge-answer.result ≡ answer_of ch tick = rw (c.judge-answer.ensures, c.is_not_here.ensures, c.rule_of-rule.ensures, c.is_sound-sound.ensures, ← c.k.view_is) in
-    let done : is_done (answer_of ch tick) ≡ true = rw (← answer, c.is_err.ensures.negation, c.if-is_err.false) in
+    let answer : c.judge.result ≡ answer_of ch tick =
+    answered ch tick c.judge.ensures (rw (c.is_sound-sound.ensures, ← c.k.view_is)) (rw (c.is_not_here.ensures, c.rule_of-rule.ensures)) in
+    let done : is_done (answer_of ch tick) ≡ true = rw (← answer, c.in_ok-judge.was) in
     let due : (a.taken && c.is_due.result) ≡ sends ch.own tick =
     rw (c.is_due.ensures, c.traffic_by-x.ensures, c.setup_of-s.ensures, c.mode_by-after.ensures, c.rule_of-rule.ensures) in
     let sent : sends ch.own tick ≡ true = sym due ∙ c.if-sent.true in
@@ -51,13 +54,14 @@ returns-then-sent c =
     )
 
 pub returns-else-sent : goal.returns-else-sent
-unfolding answer_of refusal ticked_by frame_after replied carried_out own_after notes_after mode_after traffic_after traffic_moved user_after requests_after era_after eira_after rule_for again_for sends
+unfolding ticked_by frame_after replied carried_out own_after notes_after mode_after traffic_after traffic_moved user_after requests_after era_after eira_after rule_for again_for sends
 returns-else-sent c =
     let a = c.args in
     let ch : Channel = c.k.inside.channel in
     let tick : Call = main_function a.taken (length a.frame.now) in
-    let answer : c.judge-answer.result ≡ answer_of ch tick = rw (c.judge-answer.ensures, c.is_not_here.ensures, c.rule_of-rule.ensures, c.is_sound-sound.ensures, ← c.k.view_is) in
-    let done : is_done (answer_of ch tick) ≡ true = rw (← answer, c.is_err.ensures.negation, c.if-is_err.false) in
+    let answer : c.judge.result ≡ answer_of ch tick =
+    answered ch tick c.judge.ensures (rw (c.is_sound-sound.ensures, ← c.k.view_is)) (rw (c.is_not_here.ensures, c.rule_of-rule.ensures)) in
+    let done : is_done (answer_of ch tick) ≡ true = rw (← answer, c.in_ok-judge.was) in
     let due : (a.taken && c.is_due.result) ≡ sends ch.own tick =
     rw (c.is_due.ensures, c.traffic_by-x.ensures, c.setup_of-s.ensures, c.mode_by-after.ensures, c.rule_of-rule.ensures) in
     let sent : sends ch.own tick ≡ false = sym due ∙ c.if-sent.false in

@@ -2,7 +2,8 @@
 use mathlib.Core.Path.{◌∙◌}
 use native.Mathlib.Omega.{arith}
 use Rattle.timers.specs.Timers.{counted_down}
-use Rattle.bits.proofs.Lists.{upto_here, upto_more, upto_all, any_more, any_done}
+use Rattle.bits.specs.Lists.{any_below}
+use Rattle.bits.proofs.Lists.{upto_here, upto_more, upto_all, any_more, loop_done}
 use Rattle.timers.proofs.Timers.{counted_down_differs}
 use Rattle.timers.proofs.count_down.Goals as goal
 
@@ -18,5 +19,5 @@ unfolding counted_down
 returns c =
     let l = c.loop-t in (
       upto_all _ _ l.timers l.t-index (omega arith) l.invariant.0,
-      any_done _ l.auto.t-index-end (omega arith) l.invariant.1 ∙ counted_down_differs c.args.timers.now,
+      loop_done (any_below _) l.auto.t-index-end (omega arith) l.invariant.1 ∙ counted_down_differs c.args.timers.now,
     )

@@ -11,5 +11,5 @@ use Rattle.timers.proofs.load_where.Given as goal
 
 abbrev pub invariant-loop-i : goal.invariant-loop-i
 invariant-loop-i l =
-    Upto (λ k t. cond (bit_at l.bytes k && bit_at l.mask k) l.reset t) l.initial.timers l.timers l.i
-    × (l.changed ≡ any_below (λ k. xor (eqb (get_or l.initial.timers k 0) 0) (eqb (cond (bit_at l.bytes k && bit_at l.mask k) l.reset (get_or l.initial.timers k 0)) 0)) l.i)
+    Upto (λ k t. cond (bit_at l.bytes k && bit_at l.mask k) l.reset t) l.initial.t-items l.t-items l.i
+    × (l.changed ≡ any_below (λ k. xor (eqb (get_or l.initial.t-items k 0) 0) (eqb (cond (bit_at l.bytes k && bit_at l.mask k) l.reset (get_or l.initial.t-items k 0)) 0)) l.i)

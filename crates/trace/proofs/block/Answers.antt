@@ -1,6 +1,6 @@
 -- `trace::block` meets its contract. Assumes nothing.
-use mathlib.Core.Path.{◌≡◌, refl, ap, ◌∙◌}
-use mathlib.Core.Bool.{Bool, false, ◌&&◌}
+use mathlib.Core.Path.{◌≡◌, refl, ◌∙◌}
+use mathlib.Core.Bool.{false}
 use mathlib.Core.List.{List, ◌++◌}
 use Prim.Native.Nat.{ℕ, ◌<◌}
 use native.Mathlib.Omega.{arith}
@@ -11,13 +11,10 @@ use Rattle.trace.specs.Trace.{block_most, block_of, is_taken, kept_in, kept_most
 use Rattle.trace.proofs.Text.{filled_text}
 use Rattle.trace.proofs.block.Goals as goal
 
-left_false : (t u : Bool) → t ≡ false → t && u ≡ false
-left_false t u e = ap (λ (x : Bool). x && u) e
-
 -- a block that is too long is not taken
 too_long : (t : Trace) (b : List ℕ) → block_most < length b → is_taken t b ≡ false
 unfolding is_taken
-too_long t b h = left_false _ _ (lt-leb (length b) block_most h)
+too_long t b h = rw (lt-leb (length b) block_most h)
 
 pub returns-then-block-gt-BLOCK_MOST : goal.returns-then-block-gt-BLOCK_MOST
 unfolding block_of
@@ -33,7 +30,7 @@ returns-then-lines_fit c =
     let n : length a.trace.line ≡ kept_most = omega arith in
     let text : c.part-text.result.now ≡ s =
     c.part-text.ensures
-    ∙ filled_text _ s c.put_text-n.ensures
+    ∙ filled_text _ s (rw c.part.ensures at c.put_text-n.ensures)
     (rw (length-append (kept_in a.trace) a.block.now, length-take) (omega (arith, c.if-block-gt-BLOCK_MOST.false, n))) in
     let judged : c.lines_fit.result ≡ is_taken a.trace a.block.now =
     rw (le-leb (length a.block.now) block_most (omega (arith, c.if-block-gt-BLOCK_MOST.false)), ← text) c.lines_fit.ensures in
@@ -47,7 +44,7 @@ returns c =
     let n : length a.trace.line ≡ kept_most = omega arith in
     let text : c.part-text.result.now ≡ s =
     c.part-text.ensures
-    ∙ filled_text _ s c.put_text-n.ensures
+    ∙ filled_text _ s (rw c.part.ensures at c.put_text-n.ensures)
     (rw (length-append (kept_in a.trace) a.block.now, length-take) (omega (arith, c.if-block-gt-BLOCK_MOST.false, n))) in
     let judged : c.lines_fit.result ≡ is_taken a.trace a.block.now =
     rw (le-leb (length a.block.now) block_most (omega (arith, c.if-block-gt-BLOCK_MOST.false)), ← text) c.lines_fit.ensures in

@@ -12,44 +12,32 @@ use Rattle.trace.proofs.lines.Goals as goal
 
 pub running-requires : goal.running-requires
 running-requires c =
-    let b = c.loop-w in
+    let b = c.loop-first in
     (running_true _ (sym c.is_running.ensures ∙ c.if-is_running.true), b.invariant.1)
 
 pub returns-then-is_running : goal.returns-then-is_running
-returns-then-is_running c = c.loop-w.invariant.0.rest _ _ c.running.ensures
+returns-then-is_running c = c.loop-first.invariant.0.rest _ _ c.running.ensures
 
-pub loop-w-init : goal.loop-w-init
-loop-w-init c = (going_start _ _ _, omega arith)
-
-pub slice_bounds-line-count : goal.slice_bounds-line-count
-slice_bounds-line-count c =
-    let f = span_line c.args.text.now c.loop-w.at (sym c.line_at.ensures ∙ c.in-Some.is) in omega (arith, f.0, f.1, f.2, f.3)
-
-pub slice_bounds-line-start : goal.slice_bounds-line-start
-slice_bounds-line-start c =
-    let f = span_line c.args.text.now c.loop-w.at (sym c.line_at.ensures ∙ c.in-Some.is) in omega (arith, f.0, f.1, f.2, f.3)
-
-pub slice_bounds-line-end : goal.slice_bounds-line-end
-slice_bounds-line-end c =
-    let f = span_line c.args.text.now c.loop-w.at (sym c.line_at.ensures ∙ c.in-Some.is) in omega (arith, f.0, f.1, f.2, f.3)
+pub loop-first-init : goal.loop-first-init
+loop-first-init c = (going_start _ _ _, omega arith)
 
 pub overflow_add-at : goal.overflow_add-at
 overflow_add-at c =
-    let f = span_line c.args.text.now c.loop-w.at (sym c.line_at.ensures ∙ c.in-Some.is) in omega (arith, c.well_formed.1.0, f.3)
+    let f = span_line c.args.text.now c.loop-first.at (sym c.line_at.ensures ∙ c.in-Some.is) in omega (arith, c.well_formed.1.0, f.3)
 
-pub loop-w-smaller : goal.loop-w-smaller
-loop-w-smaller c =
-    let f = span_line c.args.text.now c.loop-w.at (sym c.line_at.ensures ∙ c.in-Some.is) in omega (arith, f.0, f.1, f.2, f.3)
+pub loop-first-smaller : goal.loop-first-smaller
+loop-first-smaller c =
+    let f = span_line c.args.text.now c.loop-first.at (sym c.line_at.ensures ∙ c.in-Some.is) in omega (arith, f.0, f.1, f.2, f.3)
 
 pub line-now-requires : goal.line-now-requires
 line-now-requires c =
-    let b = c.loop-w in
-    let f = span_line c.args.text.now c.loop-w.at (sym c.line_at.ensures ∙ c.in-Some.is) in
+    let b = c.loop-first in
+    let f = span_line c.args.text.now c.loop-first.at (sym c.line_at.ensures ∙ c.in-Some.is) in
     omega (arith, f.0, f.1, f.2, f.3, b.invariant.1)
 
-pub loop-w-preserved : goal.loop-w-preserved
-loop-w-preserved c =
-    let b = c.loop-w in
+pub loop-first-preserved : goal.loop-first-preserved
+loop-first-preserved c =
+    let b = c.loop-first in
     let s = c.args.text.now in
     let end = c.in-Some.end in
     let f = span_line s b.at (sym c.line_at.ensures ∙ c.in-Some.is) in
@@ -58,8 +46,8 @@ loop-w-preserved c =
       puts_room g.text _ (omega (arith, f.0, f.2, b.invariant.1, line_le b.now (take (end - b.at) (drop b.at s)))),
     )
 
-pub returns-in-None : goal.returns-in-None
-returns-in-None c =
-    let b = c.loop-w in
+pub returns : goal.returns
+returns c =
+    let b = c.loop-first in
     let s = c.args.text.now in
-    going_end (rw (lines_none s b.at (span_end s b.at (sym c.line_at.ensures ∙ c.in-None.is))) at b.invariant.0)
+    going_end (rw (lines_none s b.at (span_end s b.at (sym c.line_at.ensures ∙ c.in_default.is))) at b.invariant.0)

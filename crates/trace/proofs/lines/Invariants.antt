@@ -7,10 +7,10 @@ use Rattle.trace_line.specs.TraceLine.{room}
 use Rattle.call_lines.proofs.Going.{Going}
 use Rattle.trace.proofs.lines.Given as goal
 
-abbrev pub invariant-loop-w : goal.invariant-loop-w
-invariant-loop-w l =
+abbrev pub invariant-loop-first : goal.invariant-loop-first
+invariant-loop-first l =
     Going l.initial.now (lines_of l.text) l.initial.w l.w l.now (lines_of (drop l.at l.text))
     × HasRoom l.w (room * (length l.text - l.at))
 
-abbrev pub decreases-loop-w : goal.decreases-loop-w
-decreases-loop-w l = length l.text + 1 - l.at
+abbrev pub decreases-loop-first : goal.decreases-loop-first
+decreases-loop-first l = length l.text + 1 - l.at

@@ -6,4 +6,4 @@ use Rattle.trace.proofs.put_text.Goals as goal
 pub returns : goal.returns
 returns c =
     let s = c.args in
-    put_behind s.text.now c.part-before.result.now s.block.now c.part-before.ensures c.copy.ensures c.put_part.ensures refl
+    put_behind s.text.now s.before.now s.block.now c.copy.ensures c.put_part.ensures refl

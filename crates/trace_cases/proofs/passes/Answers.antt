@@ -4,7 +4,7 @@ use mathlib.Core.List.{List}
 use Prim.Native.Nat.{ℕ, ◌≤◌}
 use native.Mathlib.Nat.{zero-add}
 use native.Mathlib.Omega.{arith}
-use lib.ListN.{length, take, length-take}
+use lib.ListN.{length, take}
 use Rattle.std.proofs.lemmas.Bool.Decides.{Decides-eqb}
 use Rattle.std.proofs.lemmas.Slice.Eq.{slice_eq-Decides}
 use Rattle.print.specs.Print.{Wrote}
@@ -19,8 +19,7 @@ front l a w h = rw (w.next, zero-add, w.list) (filled_front l a h)
 
 pub returns : goal.returns
 returns c =
-    let text = take c.args.n c.args.text.now in
-    let g = rw c.part.ensures at c.whole-s.ensures in
-    let p = c.part-2.ensures ∙ front c.args.out.now (printed text) g.text (omega (arith, whole_le first_run text, length-take c.args.n c.args.text.now)) in
+    let text = c.args.text.now in
+    let p = c.part.ensures ∙ front c.args.out.now (printed text) c.whole-s.ensures.text (omega (arith, whole_le first_run text)) in
     let same = slice_eq-Decides Decides-eqb _ _ _ c.eq.ensures in
     (λ e. sym p ∙ same.0 e, λ e. same.1 (p ∙ e))

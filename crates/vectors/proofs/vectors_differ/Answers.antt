@@ -5,7 +5,8 @@ use borrow.Author.Rules.{rules}
 use lib.ListN.{get_or}
 use Rattle.choice.proofs.Tests.{xor_is}
 use Rattle.vectors.specs.Vectors.{vectors_differ}
-use Rattle.bits.proofs.Lists.{any_more, any_done}
+use Rattle.bits.specs.Lists.{any_below}
+use Rattle.bits.proofs.Lists.{any_more, loop_done}
 use Rattle.vectors.proofs.vectors_differ.Goals as goal
 
 pub loop-i-preserved : goal.loop-i-preserved
@@ -16,4 +17,4 @@ loop-i-preserved c =
 
 pub returns : goal.returns
 unfolding vectors_differ
-returns c = let l = c.loop-i in any_done _ l.auto.i-end c.loop-i-test.false l.invariant
+returns c = let l = c.loop-i in loop_done (any_below _) l.auto.i-end c.loop-i-test.false l.invariant

@@ -1,8 +1,0 @@
--- `calls::enable_communication` meets its contract. Assumes nothing.
-use mathlib.Core.Path.{sym, ◌∙◌}
-use Rattle.decision.specs.Decision.{enable_communication}
-use Rattle.channel.proofs.Numbers.{by_number}
-use Rattle.calls.proofs.enable_communication.Goals as goal
-
-pub returns : goal.returns
-returns c = c.plain.ensures ∙ sym (by_number c.args.ch enable_communication tt)
