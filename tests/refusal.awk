@@ -89,6 +89,8 @@ head != "" { if (whole == head) second = $0; whole = whole "\n" $0; next }
     next
 }
 /^note: .*: it is not proved that/ && note == "" { note = $0 }
+# the invariant of a type, of which the check speaks in other words
+/^note: .*: `search` found no proof \(`invariant_of-[^`]*`\)/ && note == "" { note = $0 }
 /^fn .*: no proof: expected/ && !/did not prove/ && unmade == "" { unmade = $0 }
 /^fn .*does not cover/ && unmade == "" { unmade = $0 }
 
@@ -103,7 +105,7 @@ END {
         else if (!refused) verdict("unknown", "the log has no verdict: the edit did not reach the prover, or the run broke off")
         # no error of its own: a function that Rattle proves by itself, and now does not
         else if (unmade != "") verdict("unfit", "the edited code needs a proof that no one wrote (" unmade ")")
-        else if (note != "") { sub(/^note: .*: it is not/, "it is not", note); verdict("fact", note) }
+        else if (note != "") { sub(/^note: .*: it is not/, "it is not", note); sub(/^note: /, "", note); verdict("fact", note) }
         else verdict("unknown", "the log does not say why the edit was refused")
     }
     print class "\t" reason
