@@ -68,8 +68,9 @@ function judge_error(    place, said, short) {
     verdict("fact", place ": " said)
 }
 
+# The crates below are checked first where that is still to do, so that the last verdict is that of the edited crate.
 /^logic=proved/ { accepted = 1 }
-/^logic=not-proved/ { refused = 1 }
+/^logic=not-proved/ { refused = 1; accepted = 0 }
 /^note: .*: it is not proved that .*; the facts known there allow values/ && refuted == "" { refuted = $0 }
 /Invariants\.antt:.*: error/ { kept = 1 }
 # The kind of a goal is what its name begins with.
